@@ -1,0 +1,9 @@
+//! Streams and files behind traits that count their faults, in memory and for real.
+//!
+//! A contract over these traits can say what was taken and put where the stream tells it, and always why a
+//! call failed: a count of faults that never falls has risen.
+#![tactic(auto)]
+
+mod traits;
+
+pub use traits::{Failed, Shelf, Sink, Source};
