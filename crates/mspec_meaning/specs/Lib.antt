@@ -1,0 +1,4 @@
+pub mod Faults
+pub mod Plain
+pub mod Reads
+pub mod Stream
