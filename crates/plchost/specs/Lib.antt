@@ -1,2 +1,5 @@
 pub mod FirstForm
+pub mod Listing
 pub mod Reading
+pub mod Runs
+pub mod Tool
