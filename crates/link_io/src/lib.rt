@@ -4,6 +4,10 @@
 //! call failed: a count of faults that never falls has risen.
 #![tactic(auto)]
 
+mod counts;
+mod texts;
 mod traits;
 
+pub use counts::Count;
+pub use texts::StringList;
 pub use traits::{Failed, Shelf, Sink, Source};
