@@ -4,10 +4,13 @@
 //! call failed: a count of faults that never falls has risen.
 #![tactic(auto)]
 
+mod calls;
 mod counts;
+mod mem_sources;
 mod texts;
 mod traits;
 
 pub use counts::Count;
+pub use mem_sources::MemSource;
 pub use texts::StringList;
 pub use traits::{Failed, Shelf, Sink, Source};
