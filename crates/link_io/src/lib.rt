@@ -6,11 +6,13 @@
 
 mod calls;
 mod counts;
+mod mem_sinks;
 mod mem_sources;
 mod texts;
 mod traits;
 
 pub use counts::Count;
+pub use mem_sinks::MemSink;
 pub use mem_sources::MemSource;
 pub use texts::StringList;
 pub use traits::{Failed, Shelf, Sink, Source};
