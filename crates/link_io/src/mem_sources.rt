@@ -4,6 +4,7 @@ ghost use Rattle.link_io.specs.Memory.{NextFails, read_count, after_read, after_
 
 use crate::calls::Calls;
 use crate::counts::Count;
+use crate::pieces::copy_front;
 use crate::traits::{Failed, Source};
 use std::marker::Model;
 
@@ -112,11 +113,7 @@ impl Source for MemSource {
             self.faults.rise();
             return Err(Failed);
         }
-        let count = to
-            .len()
-            .min(self.bytes.len() - self.at)
-            .min(self.piece);
-        to[..count].copy_from_slice(&self.bytes[self.at..self.at + count]);
+        let count = copy_front(to, &self.bytes[self.at..], self.piece);
         self.at += count;
         if count == 0 {
             self.ends.rise();
