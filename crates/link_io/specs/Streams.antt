@@ -1,5 +1,7 @@
 -- What a source gave and has left, and what a sink holds, where they tell it.
 use Rattle.std.specs.Prelude.{ℕ, ◌≡◌, List, [], ◌++◌, length, take, drop, Option, Some, None}
+use Rattle.std.proofs.Common.{refl, sym, ◌∙◌, ap, append_assoc, append-nil, take-add}
+use Rattle.std.proofs.lemmas.List.{length-append, drop-drop, take-append-drop}
 
 -- the bytes that a source gave so far, and those that it has left
 pub record Tape : Type 0 where
@@ -22,7 +24,48 @@ abbrev pub IsAtEnd : Option Tape → Type 0
 IsAtEnd None = Unit {0}
 IsAtEnd (Some tape) = tape.left ≡ []
 
+-- these bytes are all that the source has left, where it tells
+abbrev pub AreAllLeft : List ℕ → Option Tape → Type 0
+AreAllLeft bytes None = Unit {0}
+AreAllLeft bytes (Some tape) = tape.left ≡ bytes
+
 -- what a sink holds after these bytes went out; a sink that doesn't tell goes on so
 abbrev pub after_taking : List ℕ → Option (List ℕ) → Option (List ℕ)
 after_taking bytes None = None
 after_taking bytes (Some held) = Some (held ++ bytes)
+
+-- giving nothing leaves the tape
+pub after_giving-nil : (tape : Option Tape) → after_giving [] tape ≡ tape
+after_giving-nil None = refl
+after_giving-nil (Some tape) = ap (λ (given : List ℕ). Some (record { given = given; left = tape.left })) (append-nil tape.given)
+
+-- giving bytes and then more is giving them in one
+pub after_giving-append : (first second : List ℕ) (tape : Option Tape)
+    → after_giving (first ++ second) tape ≡ after_giving second (after_giving first tape)
+after_giving-append first second None = refl
+after_giving-append first second (Some tape) =
+    rw (length-append, drop-drop, append_assoc)
+
+-- bytes that are next, and those that are next after them, are next in one
+pub AreNext-append : (first second : List ℕ) (tape : Option Tape)
+    → AreNext first tape → AreNext second (after_giving first tape) → AreNext (first ++ second) tape
+AreNext-append first second None one two = tt
+AreNext-append first second (Some tape) one two = rw (length-append, take-add, one, two)
+
+-- bytes after which the source is at its end are all that it has left
+pub AreNext-all : (bytes : List ℕ) (tape : Option Tape)
+    → AreNext bytes tape → IsAtEnd (after_giving bytes tape) → AreAllLeft bytes tape
+AreNext-all bytes None next done = tt
+AreNext-all bytes (Some tape) next done =
+    sym (take-append-drop (length bytes) tape.left) ∙ rw (next, done) (append-nil bytes)
+
+-- putting nothing leaves what a sink holds
+pub after_taking-nil : (held : Option (List ℕ)) → after_taking [] held ≡ held
+after_taking-nil None = refl
+after_taking-nil (Some held) = ap (λ (bytes : List ℕ). Some bytes) (append-nil held)
+
+-- putting bytes and then more is putting them in one
+pub after_taking-append : (first second : List ℕ) (held : Option (List ℕ))
+    → after_taking (first ++ second) held ≡ after_taking second (after_taking first held)
+after_taking-append first second None = refl
+after_taking-append first second (Some held) = rw append_assoc

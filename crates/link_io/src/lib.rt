@@ -4,6 +4,18 @@
 //! call failed: a count of faults that never falls has risen.
 #![tactic(auto)]
 
+mod calls;
+mod counts;
+mod mem_shelves;
+mod mem_sinks;
+mod mem_sources;
+mod pieces;
+mod texts;
 mod traits;
 
+pub use counts::Count;
+pub use mem_shelves::MemShelf;
+pub use mem_sinks::MemSink;
+pub use mem_sources::MemSource;
+pub use texts::StringList;
 pub use traits::{Failed, Shelf, Sink, Source};
