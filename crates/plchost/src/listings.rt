@@ -1,0 +1,54 @@
+ghost use Rattle.std.specs.Prelude.{◌≡◌, ℕ, List, ◌++◌, take, length, MatchResult};
+ghost use Rattle.plchost.specs.Listing.{value_text, line, lines, entries_of, listing};
+
+use itoa::Buffer;
+use mspec_tree::Field;
+use node_tree::Node;
+use std::alloc::AllocError;
+
+/// Adds `NAME = VALUE` and a line's end. An `Err` leaves a text that begins as before.
+fn add_line(text: &mut Vec<u8>, name: &[u8], node: &Node) -> Result<(), AllocError>
+    ensures { MatchResult result
+        (λ _. text.new.items ≡ text.old.items ++ line name.now node.now)
+        (λ _. take (length text.old.items) text.new.items ≡ text.old.items) }
+{
+    text.extend_from_slice(name)?;
+    text.extend_from_slice(b" = ")?;
+    if let Node::Num(number) = node {
+        let mut buffer = Buffer::new();
+        text.extend_from_slice(buffer.format(*number).as_bytes())?;
+    }
+    text.extend_from_slice(b"\n")
+}
+
+/// Adds a line for each field in order.
+fn add_lines(text: &mut Vec<u8>, fields: &[Field], entries: &[Node]) -> Result<(), AllocError>
+    ensures { MatchResult result
+        (λ _. text.new.items ≡ text.old.items ++ lines fields.now entries.now)
+        (λ _. take (length text.old.items) text.new.items ≡ text.old.items) }
+{
+    for (field, entry) in fields.iter().zip(entries) {
+        add_line(text, field.name.as_slice(), entry)?;
+    }
+    Ok(())
+}
+
+/// The entries of a group.
+fn entries_of(node: &Node) -> &[Node]
+    ensures { result.now ≡ entries_of node.now }
+{
+    match node {
+        Node::Group { entries, .. } => entries.as_slice(),
+        _ => &[],
+    }
+}
+
+/// Adds a value of a type with these fields, and an empty line. An `Err` leaves a text that begins as before.
+pub fn add_listing(text: &mut Vec<u8>, fields: &[Field], node: &Node) -> Result<(), AllocError>
+    ensures { MatchResult result
+        (λ _. text.new.items ≡ text.old.items ++ listing fields.now node.now)
+        (λ _. take (length text.old.items) text.new.items ≡ text.old.items) }
+{
+    add_lines(text, fields, entries_of(node))?;
+    text.extend_from_slice(b"\n")
+}

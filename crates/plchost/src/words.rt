@@ -1,0 +1,41 @@
+ghost use Rattle.std.specs.Prelude.{◌≡◌, ℕ, List, [], ◌∷◌, IsTrue, ◌↔◌, MatchOption};
+ghost use Rattle.plchost.specs.Tool.{AreDecode, IsPositional};
+
+use link_io::StringList;
+
+/// The words behind `decode`.
+#[derive(Clone, Copy, Debug)]
+pub struct DecodeWords<'a> {
+    pub file: &'a str,
+    pub kind: &'a [u8],
+}
+
+/// Whether a word may stand in a place of its own: it isn't empty and begins with no `-`.
+fn is_positional(word: &str) -> bool
+    ensures { IsTrue result ↔ IsPositional word.now }
+{
+    match word.as_bytes() {
+        [] => false,
+        [first, ..] => *first != b'-',
+    }
+}
+
+/// The words of `decode FILE TYPE`, if they are these.
+pub fn decode_words(words: &StringList) -> Option<DecodeWords<'_>>
+    ensures { MatchOption result
+        ((file kind : List ℕ) → AreDecode words.now file kind → ⊥)
+        (λ found. AreDecode words.now found.file.now found.kind.now) }
+{
+    if words.len() != 3 {
+        return None;
+    }
+    let (command, file, kind) = (words.get(0)?, words.get(1)?, words.get(2)?);
+    if command == "decode" && is_positional(file) && is_positional(kind) {
+        Some(DecodeWords {
+            file,
+            kind: kind.as_bytes(),
+        })
+    } else {
+        None
+    }
+}
