@@ -1,0 +1,4 @@
+pub mod Fronts
+pub mod TokenLaws
+pub mod FieldLaws
+pub mod FormLaws
