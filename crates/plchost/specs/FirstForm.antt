@@ -1,8 +1,7 @@
 -- The first form of a description: one type, whose fields are unsigned numbers of whole bytes.
-use Rattle.std.specs.Prelude.{◌≡◌, ◌≤◌, ◌==◌, ◌||◌, ℕ, Bool, true, false, List, [], ◌∷◌, ◌++◌, length, map, codes, None, IsTrue}
-use Rattle.std.specs.Char.{is_ascii_digit, is_ascii_alphabetic, is_ascii_alphanumeric}
-use Rattle.std.specs.List.{AllByRecursion, Contains, IsDistinct, flat_map}
-use Rattle.std.specs.Str.{bytes_eq}
+use Rattle.std.specs.Prelude.{◌≡◌, ◌≢◌, ◌≤◌, ◌==◌, ◌||◌, ℕ, Bool, false, List, [], ◌∷◌, ◌++◌, length, map, codes, None, IsTrue}
+use Rattle.std.specs.Char.{is_ascii_digit, is_ascii_alphabetic}
+use Rattle.std.specs.List.{AllByRecursion, Contains, flat_map}
 use Rattle.mspec_tree.specs.declared.words.Place.{Place}
 use Rattle.mspec_tree.specs.declared.words.Simple.TheVariants.{Uint}
 use Rattle.mspec_tree.specs.declared.exprs.Ref.TheVariants.{Plain as PlainRef}
@@ -23,9 +22,9 @@ is_blank b = b == 32 || b == 9 || b == 13 || b == 10
 abbrev pub begins_word : ℕ → Bool
 begins_word b = is_ascii_alphabetic b || b == 95
 
--- a letter, a digit or `_`
+-- the same, or a digit
 abbrev pub continues_word : ℕ → Bool
-continues_word b = is_ascii_alphanumeric b || b == 95
+continues_word b = begins_word b || is_ascii_digit b
 
 abbrev pub AllBlank : List ℕ → Type 0
 AllBlank bytes = AllByRecursion (λ b. IsTrue (is_blank b)) bytes
@@ -119,11 +118,16 @@ pub record PlainType : Type 0 where
 abbrev pub names_of : List PlainField → List (List ℕ)
 names_of fields = map (λ f. f.name) fields
 
+-- no name is the same as one after it
+abbrev pub Differ : List (List ℕ) → Type 0
+Differ [] = Unit {0}
+Differ (name ∷ names) = AllByRecursion (λ other. name ≢ other) names × Differ names
+
 -- at most 256 fields, whose names are names that differ from each other
 pub record AreFields (fields : List PlainField) : Type 0 where
   pub few : length fields ≤ 256
   pub named : AllByRecursion IsName (names_of fields)
-  pub distinct : IsDistinct bytes_eq (names_of fields)
+  pub distinct : Differ (names_of fields)
 
 -- a named type with 1 to 256 fields
 pub record IsPlain (p : PlainType) : Type 0 where

@@ -1,12 +1,26 @@
 //! Reads a description in the first form: one type, whose fields are unsigned numbers of whole bytes.
 
-ghost use Rattle.std.specs.Prelude.{◌≡◌, List, ℕ, IfOk};
-ghost use Rattle.plchost.specs.FirstForm.{FirstForm};
+ghost use Rattle.std.specs.Prelude.{◌≡◌, List, ℕ, map, IfOk};
+ghost use Rattle.std.specs.List.{list_any};
+ghost use Rattle.std.specs.Str.{bytes_eq};
+ghost use Rattle.plchost.specs.FirstForm.{FirstForm, PlainField, PlainType, AreFields, IsPlain, BeginsWith, Tokens, tokens_of, tree_of, field_tree, bits};
+ghost use Rattle.plchost.specs.Reading.{Gives, AreAllFields, seen, seen_type, head_of, field_of, then_close, is_end};
 ghost use Rattle.plchost.specs.declared.plain_types.FormFault.TheVariants.{NoMemory};
 ghost use Rattle.mspec_tree.specs.declared.defs.Description.{Description};
 
-use mspec_tree::Description;
+use crate::tokens::{Width, behind_blanks, keyword, name, number, symbol};
+use mspec_tree::{Body, Def, DefBody, Description, Field, FieldList, Place, Ref, Simple};
+use sqlite_items::Items;
 use std::alloc::{AllocError, AllocFailed, Global};
+
+/// The most bytes of a description.
+pub const MAX_BYTES: usize = 1_048_576;
+
+/// The most fields of a type.
+pub const MAX_FIELDS: usize = 256;
+
+/// The first form keeps no places.
+const NO_PLACE: Place = Place { line: 1, column: 1 };
 
 /// Why a text gives no description.
 #[derive(Clone, Copy, Debug, PartialEq, Eq)]
@@ -32,6 +46,143 @@ impl<T: Drop> From<AllocFailed<T>> for FormFault {
     }
 }
 
+/// A field, whose name lies in the text.
+#[derive(Clone, Copy, Debug)]
+struct ReadField<'a> {
+    name: &'a [u8],
+    width: Width,
+}
+
+/// The type's name, and what follows it.
+#[tactic(auto, unfolding(crate::specs::Reading::head_of))]
+fn head(text: &[u8]) -> Option<(&[u8], &[u8])>
+    ensures { Gives (λ r. (r.0.now, r.1.now)) result (head_of text.now) }
+{
+    let rest = symbol(b'[', text)?;
+    let rest = keyword(b"type", rest)?;
+    name(rest)
+}
+
+/// The field, and what follows it.
+#[tactic(auto, unfolding(crate::specs::Reading::field_of))]
+fn field(text: &[u8]) -> Option<(ReadField<'_>, &[u8])>
+    ensures { Gives (λ r. (seen r.0, r.1.now)) result (field_of text.now) }
+{
+    let rest = symbol(b'[', text)?;
+    let rest = keyword(b"simple", rest)?;
+    let rest = keyword(b"uint", rest)?;
+    let (width, rest) = number(rest)?;
+    let (name, rest) = name(rest)?;
+    let rest = symbol(b']', rest)?;
+    Some((ReadField { name, width }, rest))
+}
+
+/// Whether a field has the name.
+fn is_taken(fields: &[ReadField<'_>], name: &[u8]) -> bool
+    ensures { result ≡ list_any (λ f. bytes_eq f.name.now name.now) fields.now }
+{
+    fields.iter().any(|field| field.name == name)
+}
+
+/// The fields at the front of the text, and what follows them.
+fn read_fields(alloc: Global, text: &[u8]) -> Result<(Vec<ReadField<'_>>, &[u8]), FormFault>
+    ensures read { IfOk result (λ r. AreAllFields text.now (map seen r.0.items) r.1.now) }
+    ensures refused { result ≡ Err FormFault.NotBuilt → (fs : List PlainField) (end : List ℕ) → AreFields fs → BeginsWith text.now (then_close fs) end → ⊥ }
+{
+    let mut fields = Vec::new(alloc);
+    let mut rest = text;
+    while let Some((next, after)) = field(rest) {
+        if fields.len() == MAX_FIELDS || is_taken(&fields, next.name) {
+            return Err(FormFault::NotBuilt);
+        }
+        fields.push(next)?;
+        rest = after;
+    }
+    Ok((fields, rest))
+}
+
+/// Whether the text is a closing bracket, and blanks.
+fn is_end(text: &[u8]) -> bool
+    ensures { result ≡ is_end text.now }
+{
+    match symbol(b']', text) {
+        Some(rest) => behind_blanks(rest).is_empty(),
+        None => false,
+    }
+}
+
+/// A type, whose names lie in the text.
+#[derive(Debug, Drop)]
+struct ReadType<'a> {
+    name: &'a [u8],
+    fields: Vec<ReadField<'a>>,
+}
+
+fn read_type(alloc: Global, text: &[u8]) -> Result<ReadType<'_>, FormFault>
+    ensures read { IfOk result (λ t. IsPlain (seen_type t) × Tokens text.now (tokens_of (seen_type t))) }
+    ensures refused { result ≡ Err FormFault.NotBuilt → (p : PlainType) → IsPlain p → Tokens text.now (tokens_of p) → ⊥ }
+{
+    let Some((name, rest)) = head(text) else {
+        return Err(FormFault::NotBuilt);
+    };
+    let (fields, rest) = read_fields(alloc, rest)?;
+    if fields.is_empty() || !is_end(rest) {
+        return Err(FormFault::NotBuilt);
+    }
+    Ok(ReadType { name, fields })
+}
+
+fn bits(width: Width) -> u8
+    ensures { result ≡ bits width }
+{
+    match width {
+        Width::Bits8 => 8,
+        Width::Bits16 => 16,
+        Width::Bits32 => 32,
+        Width::Bits64 => 64,
+    }
+}
+
+fn field_tree(alloc: Global, field: ReadField<'_>) -> Result<Field, AllocError>
+    ensures { IfOk result (λ f. f ≡ field_tree (seen field.entry)) }
+{
+    let name = Items::from_slice(alloc, field.name)?;
+    Ok(Field {
+        place: NO_PLACE,
+        named: NO_PLACE,
+        name,
+        order: None,
+        body: Body::Simple(Ref::Plain(Simple::Uint(bits(field.width)))),
+    })
+}
+
+fn field_trees(alloc: Global, fields: &[ReadField<'_>]) -> Result<FieldList, AllocError>
+    ensures { IfOk result (λ fs. fs ≡ map field_tree (map seen fields.now)) }
+{
+    let mut trees = Items::new(alloc);
+    for field in fields {
+        trees.push(field_tree(alloc, *field)?)?;
+    }
+    Ok(trees)
+}
+
+fn tree(alloc: Global, plain: &ReadType<'_>) -> Result<Description, AllocError>
+    ensures { IfOk result (λ d. d ≡ tree_of (seen_type plain.now)) }
+{
+    let fields = field_trees(alloc, &plain.fields)?;
+    let name = Items::from_slice(alloc, plain.name)?;
+    let mut defs = Items::new(alloc);
+    defs.push(Def {
+        place: NO_PLACE,
+        named: NO_PLACE,
+        name,
+        params: Items::new(alloc),
+        order: None,
+        body: DefBody::Plain(fields),
+    })?;
+    Ok(Description { defs })
+}
+
 /// A text has one description.
 pub fn one_form()
     ensures { (text : List ℕ) (d e : Description) → FirstForm text d → FirstForm text e → d ≡ e }
@@ -42,5 +193,198 @@ pub fn first_form(alloc: Global, text: &[u8]) -> Result<Description, FormFault>
     ensures accepted { IfOk result (λ d. FirstForm text.now d) }
     ensures refused { result ≡ Err FormFault.NotBuilt → (d : Description) → FirstForm text.now d → ⊥ }
 {
-    Err(FormFault::NotBuilt)
+    if text.len() > MAX_BYTES {
+        return Err(FormFault::NotBuilt);
+    }
+    let plain = read_type(alloc, text)?;
+    Ok(tree(alloc, &plain)?)
+}
+
+#[cfg(test)]
+mod tests {
+    use super::*;
+    use mspec_tree::Name;
+    use std::fmt::Write;
+    use std::test::Fail;
+
+    /// Texts in the first form, and the name and fields of each.
+    const ACCEPTED: [(&[u8], &str); 8] = [
+        (
+            b"[type P [simple uint 8 a] [simple uint 16 b]]",
+            "P 8:a 16:b",
+        ),
+        (b"[type P[simple uint 8a]]", "P 8:a"),
+        (
+            b"\t[\r\ntype\n P\r\n[\tsimple\ruint\t\t64\nc ] ]\r\n",
+            "P 64:c",
+        ),
+        (b"[type P [simple uint 32 P]]", "P 32:P"),
+        (
+            b"[type type [simple uint 8 simple] [simple uint 16 uint8]]",
+            "type 8:simple 16:uint8",
+        ),
+        (b"[type _ [simple uint 8 a] [simple uint 8 A]]", "_ 8:a 8:A"),
+        (
+            b"[type P [simple uint 8 bits] [simple uint 8 Bit]]",
+            "P 8:bits 8:Bit",
+        ),
+        (b"[type Z9_z[simple uint 8_0]]", "Z9_z 8:_0"),
+    ];
+
+    const REFUSED: [&[u8]; 31] = [
+        b"",
+        b" \n",
+        b"[type P]",
+        b"[type P ]",
+        b"[type P [simple uint 8 a]",
+        b"[type P [simple uint 8 a]]]",
+        b"[type P [simple uint 8 a]] [type Q [simple uint 8 a]]",
+        b"[type P [simple uint 8 a]] x",
+        b"[type P [simple uint 8 a] [simple uint 16 a]]",
+        b"[type P [simple uint 12 a]]",
+        b"[type P [simple uint 24 a]]",
+        b"[type P [simple uint 0x10 a]]",
+        b"[type P [simple uint 016 a]]",
+        b"[type P [simple uint 88 a]]",
+        b"[type P [simple uint a]]",
+        b"[type P [simple uint 8]]",
+        b"[type P [simple uint8 a]]",
+        b"[type P [simpleuint 8 a]]",
+        b"[typeP [simple uint 8 a]]",
+        b"[type P [simple int 8 a]]",
+        b"[type P [const uint 8 a]]",
+        b"[Type P [simple uint 8 a]]",
+        b"[enum P [simple uint 8 a]]",
+        b"[type 1P [simple uint 8 a]]",
+        b"[type P [simple uint 8 a-b]]",
+        b"[type P [simple uint 8 a]] // a",
+        b"/* a */ [type P [simple uint 8 a]]",
+        b"[type P\x0b[simple uint 8 a]]",
+        b"[type P\x0c[simple uint 8 a]]",
+        b"[type P [simple uint 8 a]]\0",
+        b"[type P [simple uint 8 a\xc8]]",
+    ];
+
+    const RESERVED: [&str; 15] = [
+        "bit",
+        "byte",
+        "uint",
+        "int",
+        "float",
+        "true",
+        "false",
+        "null",
+        "COUNT",
+        "CAST",
+        "curPos",
+        "lengthInBytes",
+        "lastItem",
+        "SUM_BYTES",
+        "XOR_BYTES",
+    ];
+
+    fn push_name(out: &mut String, name: &Name) -> Result<(), AllocError> {
+        for byte in name.as_slice() {
+            out.push(char::from(*byte))?;
+        }
+        Ok(())
+    }
+
+    fn push_field(out: &mut String, field: &Field) -> Result<(), AllocError> {
+        if let Body::Simple(Ref::Plain(Simple::Uint(width))) = &field.body {
+            write!(out, " {width}:")?;
+        }
+        push_name(out, &field.name)
+    }
+
+    fn shown(alloc: Global, description: &Description) -> Result<String, AllocError> {
+        let mut out = String::new(alloc);
+        for def in description.defs.as_slice() {
+            push_name(&mut out, &def.name)?;
+            if let DefBody::Plain(fields) = &def.body {
+                for field in fields.as_slice() {
+                    push_field(&mut out, field)?;
+                }
+            }
+        }
+        Ok(out)
+    }
+
+    fn is_refused(alloc: Global, text: &[u8]) -> bool {
+        matches!(first_form(alloc, text), Err(FormFault::NotBuilt))
+    }
+
+    fn with_fields(alloc: Global, count: u32) -> Result<String, AllocError> {
+        let mut text = String::from_str(alloc, "[type P")?;
+        for i in 0..count {
+            write!(text, "[simple uint 8 f{i}]")?;
+        }
+        text.push_str("]")?;
+        Ok(text)
+    }
+
+    fn padded(alloc: Global, blanks: usize) -> Result<Vec<u8>, AllocError> {
+        let mut text = Vec::from_slice(alloc, b"[type P [simple uint 8 a]]")?;
+        for _ in 0..blanks {
+            text.push(b' ')?;
+        }
+        Ok(text)
+    }
+
+    #[test]
+    fn texts_in_the_first_form_are_read(rt: HostRuntime) -> Result<(), Fail> {
+        for (text, expected) in ACCEPTED {
+            let description = first_form(rt.alloc(), text)?;
+            let shown = shown(rt.alloc(), &description)?;
+            assert_eq!(rt; shown.as_str(), expected);
+        }
+        Ok(())
+    }
+
+    #[test]
+    fn texts_outside_the_first_form_are_refused(rt: HostRuntime) {
+        for text in REFUSED {
+            assert!(rt; is_refused(rt.alloc(), text), "{text:?}");
+        }
+    }
+
+    #[test]
+    fn a_text_cut_anywhere_is_refused(rt: HostRuntime) {
+        let text = b"[type P [simple uint 8 a] [simple uint 16 b]]".as_slice();
+        for len in 0..text.len() {
+            assert!(rt; is_refused(rt.alloc(), &text[..len]), "{len}");
+        }
+    }
+
+    #[test]
+    fn no_name_is_a_reserved_word(rt: HostRuntime) -> Result<(), Fail> {
+        for word in RESERVED {
+            let as_type = format!(in rt.alloc(); "[type {word} [simple uint 8 a]]")?;
+            assert!(rt; is_refused(rt.alloc(), as_type.as_bytes()), "{word}");
+            let as_field = format!(in rt.alloc(); "[type P [simple uint 8 {word}]]")?;
+            assert!(rt; is_refused(rt.alloc(), as_field.as_bytes()), "{word}");
+        }
+        Ok(())
+    }
+
+    #[test]
+    fn a_type_has_at_most_256_fields(rt: HostRuntime) -> Result<(), Fail> {
+        let most = with_fields(rt.alloc(), 256)?;
+        let description = first_form(rt.alloc(), most.as_bytes())?;
+        let shown = shown(rt.alloc(), &description)?;
+        assert_eq!(rt; shown.as_str().split(' ').count(), 257);
+        let more = with_fields(rt.alloc(), 257)?;
+        assert!(rt; is_refused(rt.alloc(), more.as_bytes()));
+        Ok(())
+    }
+
+    #[test]
+    fn a_text_has_at_most_2_to_the_20_bytes(rt: HostRuntime) -> Result<(), Fail> {
+        let most = padded(rt.alloc(), MAX_BYTES - 26)?;
+        assert_eq!(rt; most.len(), MAX_BYTES);
+        assert!(rt; first_form(rt.alloc(), &most).is_ok());
+        let more = padded(rt.alloc(), MAX_BYTES - 25)?;
+        assert!(rt; is_refused(rt.alloc(), &more));
+        Ok(())
+    }
 }
