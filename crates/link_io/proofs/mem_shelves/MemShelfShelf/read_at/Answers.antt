@@ -1,4 +1,4 @@
-use Rattle.std.proofs.Common.{◌≡◌, ◌-◌, ℕ, Some, None, length, sym, refl, inl, inr, ap, ◌∙◌, arith, length-drop}
+use Rattle.std.proofs.Common.{◌≡◌, ◌-◌, Some, None, length, sym, refl, inl, inr, ap, ◌∙◌, arith, length-drop}
 use Rattle.link_io.specs.Memory.{file_of, NextFails}
 use Rattle.link_io.proofs.mem_shelves.MemShelfShelf.read_at.Goals as goal
 
