@@ -13,6 +13,8 @@ mod mem_sources;
 mod pieces;
 mod retries;
 mod std_streams;
+#[cfg(test)]
+mod tests;
 mod texts;
 mod traits;
 
