@@ -4,11 +4,10 @@ use crate::counts::Count;
 use crate::retries::read_retrying;
 use crate::traits::{Failed, Shelf};
 use std::alloc::Global;
-use std::fs;
 use std::fs::Files;
-use std::io;
 use std::io::{Read, Seek, SeekFrom};
 use std::marker::Model;
+use std::{fs, io};
 
 /// The files of the runtime. It tells nothing of them, and counts the faults of all names together.
 ///

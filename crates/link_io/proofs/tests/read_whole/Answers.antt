@@ -10,11 +10,11 @@ returns-in-Ok-eq0-clause-all g c =
 pub loop-turn-preserved : goal.loop-turn-preserved
 loop-turn-preserved g c =
     let put : c.extend_from_slice.new.self.items ≡ c.loop-turn.bytes.items ++ take c.in-Ok.count c.read.new.to =
-        grind (arith, c.extend_from_slice.ensures.items, c.if-is_err.ensures) in
+    grind (arith, c.extend_from_slice.ensures.items, c.if-is_err.ensures) in
     let some : 0 < c.in-Ok.count = omega arith in
     record {
       told = rw (put, after_giving-append, ← c.loop-turn.invariant.told) c.in-Ok.ensures.given;
       next = rw put (AreNext-append _ _ _ c.loop-turn.invariant.next (rw c.loop-turn.invariant.told at c.in-Ok.ensures.next));
       faults = c.in-Ok.ensures.no_fault ∙ c.loop-turn.invariant.faults;
-      ends = c.in-Ok.ensures.no_end some ∙ c.loop-turn.invariant.ends
+      ends = c.in-Ok.ensures.no_end some ∙ c.loop-turn.invariant.ends;
     }

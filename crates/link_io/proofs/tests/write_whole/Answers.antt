@@ -6,12 +6,12 @@ pub loop-turn-preserved : goal.loop-turn-preserved
 loop-turn-preserved g c =
     let some : 0 < c.in-Ok-write.count = omega arith in
     let rest : take (length c.args.bytes.now - c.loop-turn.put) (drop c.loop-turn.put c.args.bytes.now)
-        ≡ drop c.loop-turn.put c.args.bytes.now =
-        take_all _ _ (omega (arith, length-drop c.loop-turn.put c.args.bytes.now)) in
+    ≡ drop c.loop-turn.put c.args.bytes.now =
+    take_all _ _ (omega (arith, length-drop c.loop-turn.put c.args.bytes.now)) in
     record {
       within = omega (arith, rw rest at c.in-Ok-write.ensures.count, length-drop c.loop-turn.put c.args.bytes.now);
       held =
-        rw (take-add, after_taking-append, ← c.loop-turn.invariant.held)
-        (rw rest at c.in-Ok-write.ensures.held);
-      faults = c.in-Ok-write.ensures.no_fault some ∙ c.loop-turn.invariant.faults
+          rw (take-add, after_taking-append, ← c.loop-turn.invariant.held)
+          (rw rest at c.in-Ok-write.ensures.held);
+      faults = c.in-Ok-write.ensures.no_fault some ∙ c.loop-turn.invariant.faults;
     }
