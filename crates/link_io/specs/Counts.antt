@@ -21,3 +21,8 @@ Rose-after old mid new first second rose = grind arith
 -- a count that rose in an earlier call, and fell in none, rose over both
 pub Rose-before : (old mid new : ℕ) → Rose old mid → mid ≤ new → Rose old new
 Rose-before old mid new rose kept below = omega (arith, rose below)
+
+-- what is known of a source that tells nothing of its bytes
+pub record SourceCounts : Type 0 where
+  pub faults : ℕ
+  pub ends : ℕ

@@ -36,7 +36,7 @@ after_read source count =
     record source {
       tape = record { given = source.tape.given ++ take count source.tape.left; left = drop count source.tape.left };
       calls = after_call source.calls;
-      ends = if count == 0 then next source.ends else source.ends
+      ends = if count == 0 then next source.ends else source.ends;
     }
 
 -- the source after a read that failed
@@ -62,7 +62,7 @@ after_write sink bytes =
     record sink {
       held = sink.held ++ bytes;
       calls = after_call sink.calls;
-      faults = if length bytes == 0 then next sink.faults else sink.faults
+      faults = if length bytes == 0 then next sink.faults else sink.faults;
     }
 
 -- the sink after a call that failed
@@ -97,5 +97,5 @@ abbrev pub after_failed_read_of : ShelfState → List ℕ → ShelfState
 after_failed_read_of shelf name =
     record shelf {
       calls = after_call shelf.calls;
-      counts = slice_set shelf.counts (place_of name) (next (faults_of shelf name))
+      counts = slice_set shelf.counts (place_of name) (next (faults_of shelf name));
     }

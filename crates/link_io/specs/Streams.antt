@@ -1,6 +1,6 @@
 -- What a source gave and has left, and what a sink holds, where they tell it.
-use Rattle.std.specs.Prelude.{ℕ, ◌≡◌, List, [], ◌++◌, length, take, drop, Option, Some, None}
-use Rattle.std.proofs.Common.{refl, sym, ◌∙◌, ap, append_assoc, append-nil, take-add}
+use Rattle.std.specs.Prelude.{ℕ, ◌≡◌, ◌≤◌, List, [], ◌++◌, length, take, drop, Option, Some, None, IfSome}
+use Rattle.std.proofs.Common.{refl, sym, ◌∙◌, ap, append_assoc, append-nil, take-add, take_all, length-take-le}
 use Rattle.std.proofs.lemmas.List.{length-append, drop-drop, take-append-drop}
 
 -- the bytes that a source gave so far, and those that it has left
@@ -69,3 +69,31 @@ pub after_taking-append : (first second : List ℕ) (held : Option (List ℕ))
     → after_taking (first ++ second) held ≡ after_taking second (after_taking first held)
 after_taking-append first second None = refl
 after_taking-append first second (Some held) = rw append_assoc
+
+-- these bytes are the first of the file, where it is told
+abbrev pub AreFirst : List ℕ → Option (List ℕ) → Type 0
+AreFirst bytes None = Unit {0}
+AreFirst bytes (Some file) = take (length bytes) file ≡ bytes
+
+-- no bytes are the first of each file
+pub AreFirst-nil : (file : Option (List ℕ)) → AreFirst [] file
+AreFirst-nil None = tt
+AreFirst-nil (Some file) = refl
+
+-- the first bytes of a file and what a read from there took, are its first bytes
+pub AreFirst-append : (file : Option (List ℕ)) (bytes taken : List ℕ) (count : ℕ)
+    → count ≤ length taken
+    → AreFirst bytes file
+    → IfSome file (λ whole. take count taken ≡ take count (drop (length bytes) whole))
+    → AreFirst (bytes ++ take count taken) file
+AreFirst-append None bytes taken count within first next = tt
+AreFirst-append (Some file) bytes taken count within first next =
+    rw (length-append, length-take-le count taken within, take-add, first, ← next)
+
+-- first bytes after which the file has none are the whole file
+pub AreFirst-whole : (file : Option (List ℕ)) (bytes : List ℕ)
+    → AreFirst bytes file
+    → IfSome file (λ whole. length whole ≤ length bytes)
+    → IfSome file (λ whole. whole ≡ bytes)
+AreFirst-whole None bytes first done = tt
+AreFirst-whole (Some file) bytes first done = sym (take_all (length bytes) file done) ∙ first

@@ -33,10 +33,10 @@ impl Model for MemShelf {
     ghost Value = { ShelfState };
 
     ghost view = { λ shelf. record {
-        files = map (λ file. (string_bytes file.0, file.1.items)) shelf.files.items;
-        piece = shelf.piece;
-        calls = shelf.calls;
-        counts = shelf.counts
+      files = map (λ file. (string_bytes file.0, file.1.items)) shelf.files.items;
+      piece = shelf.piece;
+      calls = shelf.calls;
+      counts = shelf.counts;
     } };
 
     ghost invariant = { λ shelf. 0 < shelf.piece };

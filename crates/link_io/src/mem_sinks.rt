@@ -26,11 +26,11 @@ impl Model for MemSink {
     ghost Value = { SinkState };
 
     ghost view = { λ sink. record {
-        held = sink.held.items;
-        room = sink.room;
-        piece = sink.piece;
-        calls = sink.calls;
-        faults = sink.faults
+      held = sink.held.items;
+      room = sink.room;
+      piece = sink.piece;
+      calls = sink.calls;
+      faults = sink.faults;
     } };
 
     ghost invariant = { λ sink. (vec_len sink.held ≤ sink.room) × (0 < sink.piece) };

@@ -27,14 +27,14 @@ impl Model for MemSource {
     ghost Value = { SourceState };
 
     ghost view = { λ source. record {
-        tape = record {
-            given = take source.at source.bytes.items;
-            left = drop source.at source.bytes.items
-        };
-        piece = source.piece;
-        calls = source.calls;
-        faults = source.faults;
-        ends = source.ends
+      tape = record {
+        given = take source.at source.bytes.items;
+        left = drop source.at source.bytes.items;
+      };
+      piece = source.piece;
+      calls = source.calls;
+      faults = source.faults;
+      ends = source.ends;
     } };
 
     ghost invariant = { λ source. (source.at ≤ vec_len source.bytes) × (0 < source.piece) };

@@ -1,4 +1,4 @@
-use Rattle.std.proofs.Common.{◌<◌, ◌%◌, arith, sum}
+use Rattle.std.proofs.Common.{◌%◌, arith, sum}
 use Rattle.std.proofs.lemmas.List.{get_or-replicate}
 use Rattle.link_io.proofs.mem_shelves.MemShelf.new.Goals as goal
 

@@ -1,4 +1,4 @@
-use Rattle.std.proofs.Common.{◌≡◌, ◌≤◌, ℕ, ◌+◌, Bool, false, eqb, arith, rules, take-add, ne_eqb, List}
+use Rattle.std.proofs.Common.{ℕ, arith, take-add, List}
 use Rattle.std.proofs.lemmas.List.{drop-drop}
 use Rattle.std.proofs.lemmas.Grind.{common_steps}
 use Rattle.link_io.proofs.mem_sources.MemSourceSource.read.Goals as goal

@@ -1,0 +1,270 @@
+//! Each object once through a function that knows its trait alone, and once failing in mid-stream.
+ghost use Rattle.std.specs.Prelude.{◌≡◌, ◌≤◌, ◌++◌, ℕ, List, take, length, Err, IfOk, OnOk, OnErr, IfSome};
+ghost use Rattle.link_io.specs.Counts.{Rose};
+ghost use Rattle.link_io.specs.Streams.{after_giving, AreNext, AreAllLeft, after_taking};
+
+use super::*;
+use std::alloc::{AllocError, Global};
+use std::io::{ErrorKind, Read};
+use std::test::Fail;
+use std::{env, fs, io, process};
+
+#[derive(Clone, Copy, Debug, PartialEq, Eq)]
+enum Stopped {
+    ByFault,
+    ByLength,
+    ByMemory,
+}
+
+/// Reads to the end.
+fn read_whole<S: Source>(alloc: Global, input: &mut S) -> Result<Vec<u8>, Stopped>
+    ensures told { IfOk result (λ bytes. S.told input.new ≡ after_giving bytes.items (S.told input.old)) }
+    ensures all { IfOk result (λ bytes. AreAllLeft bytes.items (S.told input.old)) }
+    ensures ended { OnOk result (Rose (S.ends input.old) (S.ends input.new)) }
+    ensures no_fault { OnOk result (S.faults input.new ≡ S.faults input.old) }
+    ensures fault { result ≡ Err Stopped.ByFault → Rose (S.faults input.old) (S.faults input.new) }
+{
+    let mut bytes = Vec::new(alloc);
+    for _turn in 0..100u32 {
+        let mut piece = [0u8; 4];
+        match input.read(&mut piece) {
+            Ok(0) => return Ok(bytes),
+            Ok(count) => {
+                if bytes.extend_from_slice(&piece[..count]).is_err() {
+                    return Err(Stopped::ByMemory);
+                }
+            }
+            Err(Failed) => return Err(Stopped::ByFault),
+        }
+    }
+    Err(Stopped::ByLength)
+}
+
+/// Puts all bytes and hands them on.
+fn write_whole<K: Sink>(output: &mut K, bytes: &[u8]) -> Result<(), Stopped>
+    ensures held { OnOk result (K.held output.new ≡ after_taking bytes.now (K.held output.old)) }
+    ensures no_fault { OnOk result (K.faults output.new ≡ K.faults output.old) }
+    ensures fault { result ≡ Err Stopped.ByFault → Rose (K.faults output.old) (K.faults output.new) }
+{
+    let mut put = 0;
+    for _turn in 0..100u32 {
+        if put == bytes.len() {
+            return match output.flush() {
+                Ok(()) => Ok(()),
+                Err(Failed) => Err(Stopped::ByFault),
+            };
+        }
+        match output.write(&bytes[put..]) {
+            Ok(0) => return Err(Stopped::ByFault),
+            Ok(count) => put += count,
+            Err(Failed) => return Err(Stopped::ByFault),
+        }
+    }
+    Err(Stopped::ByLength)
+}
+
+/// Reads a file from its first byte to its end.
+fn read_file<S: Shelf>(alloc: Global, shelf: &mut S, name: &str) -> Result<Vec<u8>, Stopped>
+    ensures content { IfOk result (λ bytes. IfSome (S.file shelf.old name.now) (λ whole. whole ≡ bytes.items)) }
+    ensures no_fault { OnOk result ((other : List ℕ) → S.faults shelf.new other ≡ S.faults shelf.old other) }
+    ensures fault { result ≡ Err Stopped.ByFault
+        → Rose (S.faults shelf.old name.now) (S.faults shelf.new name.now) }
+    ensures others { (other : List ℕ) → (S.counts_with name.now other → ⊥)
+        → S.faults shelf.new other ≡ S.faults shelf.old other }
+{
+    let mut bytes = Vec::new(alloc);
+    for _turn in 0..100u32 {
+        let mut piece = [0u8; 4];
+        match shelf.read_at(name, bytes.len() as u64, &mut piece) {
+            Ok(0) => return Ok(bytes),
+            Ok(count) => {
+                if bytes.extend_from_slice(&piece[..count]).is_err() {
+                    return Err(Stopped::ByMemory);
+                }
+            }
+            Err(Failed) => return Err(Stopped::ByFault),
+        }
+    }
+    Err(Stopped::ByLength)
+}
+
+fn bytes_in(alloc: Global, bytes: &[u8]) -> Result<Vec<u8>, AllocError> {
+    Vec::from_slice(alloc, bytes)
+}
+
+#[test]
+fn a_source_in_memory_gives_its_pieces(rt: HostRuntime) -> Result<(), Fail> {
+    let alloc = rt.alloc();
+    let bytes = bytes_in(alloc, b"0123456789")?;
+    let mut source = MemSource::new(bytes, Vec::new(alloc)).in_pieces(3);
+    let whole = read_whole(alloc, &mut source)?;
+    assert_eq!(rt; whole.as_slice(), b"0123456789".as_slice());
+    assert_eq!(rt; source.ends(), 1);
+    assert_eq!(rt; source.faults(), 0);
+    Ok(())
+}
+
+#[test]
+fn a_source_in_memory_fails_at_a_call(rt: HostRuntime) -> Result<(), Fail> {
+    let alloc = rt.alloc();
+    let bytes = bytes_in(alloc, b"0123456789")?;
+    let mut source = MemSource::new(bytes, vec![in alloc; 2]?).in_pieces(3);
+    assert_eq!(rt;
+        read_whole(alloc, &mut source).err(),
+        Some(Stopped::ByFault)
+    );
+    assert_eq!(rt; source.left(), b"3456789".as_slice());
+    let rest = read_whole(alloc, &mut source)?;
+    assert_eq!(rt; rest.as_slice(), b"3456789".as_slice());
+    assert_eq!(rt; source.faults(), 1);
+    Ok(())
+}
+
+#[test]
+fn a_sink_in_memory_takes_pieces(rt: HostRuntime) -> Result<(), Fail> {
+    let alloc = rt.alloc();
+    let mut sink = MemSink::new(alloc, Vec::new(alloc)).in_pieces(2);
+    assert_eq!(rt; write_whole(&mut sink, b"01234"), Ok(()));
+    assert_eq!(rt; sink.bytes(), b"01234".as_slice());
+    assert_eq!(rt; sink.faults(), 0);
+    Ok(())
+}
+
+#[test]
+fn a_sink_in_memory_fails_at_a_call_and_past_its_room(rt: HostRuntime) -> Result<(), Fail> {
+    let alloc = rt.alloc();
+    // Writes of two bytes and then the flush: five bytes are put by the third call.
+    for (room, fails, held) in [(9, 2, 2), (9, 4, 5), (3, 9, 3), (0, 9, 0)] {
+        let mut sink = MemSink::with_room(alloc, room, vec![in alloc; fails]?).in_pieces(2);
+        assert_eq!(rt;
+            write_whole(&mut sink, b"01234"),
+            Err(Stopped::ByFault),
+            "room {room}"
+        );
+        assert_eq!(rt; sink.bytes().len(), held, "room {room}, call {fails}");
+        assert_eq!(rt; sink.faults(), 1);
+    }
+    Ok(())
+}
+
+#[test]
+fn a_shelf_in_memory_has_its_files_and_no_others(rt: HostRuntime) -> Result<(), Fail> {
+    let alloc = rt.alloc();
+    let mut files = Vec::new(alloc);
+    files.push((String::from_str(alloc, "p")?, bytes_in(alloc, b"01234")?))?;
+    files.push((String::from_str(alloc, "q")?, bytes_in(alloc, b"")?))?;
+    let mut shelf = MemShelf::new(files, vec![in alloc; 5]?).in_pieces(3);
+    let whole = read_file(alloc, &mut shelf, "p")?;
+    assert_eq!(rt; whole.as_slice(), b"01234".as_slice());
+    assert_eq!(rt;
+        read_file(alloc, &mut shelf, "r").err(),
+        Some(Stopped::ByFault)
+    );
+    assert_eq!(rt;
+        read_file(alloc, &mut shelf, "q").err(),
+        Some(Stopped::ByFault),
+        "the fifth call"
+    );
+    let empty = read_file(alloc, &mut shelf, "q")?;
+    assert_eq!(rt; empty.len(), 0);
+    for (name, faults) in [("p", 0), ("q", 1), ("r", 1), ("s", 0)] {
+        assert_eq!(rt; shelf.faults(name), faults, "{name}");
+    }
+    Ok(())
+}
+
+#[test]
+fn a_list_of_texts_keeps_their_order(rt: HostRuntime) -> Result<(), Fail> {
+    let alloc = rt.alloc();
+    let mut texts = StringList::new(alloc);
+    assert!(rt; texts.is_empty());
+    texts.push(String::from_str(alloc, "one")?)?;
+    texts.push(String::from_str(alloc, "two")?)?;
+    let texts = StringList::from_vec(texts.into_vec());
+    assert_eq!(rt; texts.len(), 2);
+    for (at, text) in [(0, Some("one")), (1, Some("two")), (2, None)] {
+        assert!(rt; texts.get(at) == text, "at {at}");
+    }
+    Ok(())
+}
+
+#[test]
+fn a_real_file_is_written_and_read(rt: HostRuntime) -> Result<(), Fail> {
+    let alloc = rt.alloc();
+    let path = format!(in alloc;
+        "{}/link_io_{}.tmp",
+        env::temp_dir(&rt)?.as_path().to_string_lossy(),
+        process::id(rt.process())
+    )?;
+    let name = path.as_str();
+
+    let mut sink = StdSink::new(fs::create(&rt, name)?);
+    assert_eq!(rt; write_whole(&mut sink, b"0123456789"), Ok(()));
+    assert_eq!(rt; sink.faults(), 0);
+
+    let mut source = StdSource::new(fs::open(&rt, name)?);
+    let whole = read_whole(alloc, &mut source)?;
+    assert_eq!(rt; whole.as_slice(), b"0123456789".as_slice());
+    assert_eq!(rt; source.ends(), 1);
+    assert_eq!(rt; source.faults(), 0);
+
+    let mut shelf = FileShelf::new(rt, alloc);
+    let whole = read_file(alloc, &mut shelf, name)?;
+    assert_eq!(rt; whole.as_slice(), b"0123456789".as_slice());
+    let mut back = [0u8; 2];
+    assert_eq!(rt; shelf.read_at(name, 4, &mut back), Ok(2));
+    assert_eq!(rt; back, *b"45");
+    assert_eq!(rt; shelf.faults(), 0);
+
+    // A file that was opened to be read takes nothing, and one that is gone can't be opened.
+    let mut closed = StdSink::new(fs::open(&rt, name)?);
+    assert_eq!(rt; write_whole(&mut closed, b"0"), Err(Stopped::ByFault));
+    assert_eq!(rt; closed.faults(), 1);
+    fs::remove_file(&rt, name)?;
+    assert_eq!(rt;
+        read_file(alloc, &mut FileShelf::new(rt, alloc), name).err(),
+        Some(Stopped::ByFault)
+    );
+    Ok(())
+}
+
+/// A reader that a signal interrupts before it gives a byte, and that fails after it.
+#[derive(Drop)]
+struct Interrupted {
+    reads: u8,
+}
+
+impl Read for Interrupted {
+    fn read(&mut self, to: &mut [u8]) -> io::Result<usize> {
+        self.reads = self.reads.saturating_add(1);
+        match self.reads {
+            1 | 2 => Err(io::Error::from(ErrorKind::Interrupted)),
+            3 if !to.is_empty() => {
+                to[0] = b'0';
+                Ok(1)
+            }
+            _ => Err(io::Error::from(ErrorKind::UnexpectedEof)),
+        }
+    }
+}
+
+#[test]
+fn an_interrupted_read_is_made_again(rt: HostRuntime) -> Result<(), Fail> {
+    let mut source = StdSource::new(Interrupted { reads: 0 });
+    let mut to = [0u8; 4];
+    assert_eq!(rt; source.read(&mut to), Ok(1));
+    assert_eq!(rt; source.faults(), 0);
+    assert_eq!(rt; source.read(&mut to), Err(Failed));
+    assert_eq!(rt; source.faults(), 1);
+    assert_eq!(rt; source.ends(), 0);
+    Ok(())
+}
+
+#[test]
+fn a_writer_that_takes_no_byte_is_at_fault(rt: HostRuntime) -> Result<(), Fail> {
+    let mut room = [0u8; 3];
+    let mut sink = StdSink::new(&mut room[..]);
+    assert_eq!(rt; write_whole(&mut sink, b"01234"), Err(Stopped::ByFault));
+    assert_eq!(rt; sink.faults(), 1);
+    Ok(())
+}
