@@ -1,5 +1,6 @@
 -- Bits of bytes, piece by piece, and the number that a list of bytes spells.
-use Rattle.std.proofs.Common.{◌≡◌, ℕ, zero, suc, ◌+◌, ◌*◌, ◌/◌, ◌%◌, ◌^◌, ◌<◌, ◌≤◌, ◌==◌, Bool, List, [], ◌∷◌, ◌++◌, length, get_or, take, drop, refl, sym, ap, ◌∙◌, append_assoc, length-append, arith, pow-suc}
+use Rattle.std.proofs.Common.{◌≡◌, ℕ, zero, suc, ◌+◌, ◌*◌, ◌/◌, ◌%◌, ◌^◌, ◌<◌, ◌≤◌, ◌⊎◌, ◌==◌, Bool, List, [], ◌∷◌, ◌++◌, length, get_or, take, drop, refl, inl, inr, sym, ap, ◌∙◌, append_assoc, length-append, arith, pow-suc}
+use Rattle.std.proofs.Math.ListN.{drop_of_length-le}
 use Rattle.std.proofs.Math.Seq.{take-append_seam, drop-append_seam}
 use Rattle.std.proofs.lemmas.List.{length-take-le, take-append-drop, take_more, append-nil}
 use Rattle.std.proofs.lemmas.Bool.Decides.{nat_tests}
@@ -71,3 +72,17 @@ spelled_more bytes i h small =
     ∙ spelled_behind-append 0 (bits_of (take i bytes)) (bits_of (get_or bytes i 0 ∷ []))
     ∙ ap (λ bits. spelled_behind (big_number (bits_of (take i bytes))) bits) (append-nil (number_bits 8 (get_or bytes i 0)))
     ∙ spelled_byte (big_number (bits_of (take i bytes))) (get_or bytes i 0) small
+
+past_end : (n : ℕ) (bytes : List ℕ) → length bytes ≤ n → drop (8 * n) (bits_of bytes) ≡ bits_of (drop n bytes)
+past_end n bytes h =
+    drop_of_length-le (bits_of bytes) (omega (arith, length_bits_of bytes)) ∙ ap bits_of (sym (drop_of_length-le bytes h))
+
+within_or_past : (n m : ℕ) → (n ≤ m) ⊎ (m ≤ n)
+within_or_past zero m = inl (omega arith)
+within_or_past (suc n) zero = inr (omega arith)
+within_or_past (suc n) (suc m) = elim (within_or_past n m) [ inl h ↦ inl (omega (arith, h)) | inr h ↦ inr (omega (arith, h)) ]
+
+-- the bits behind so many bytes, however many there are
+pub bits_behind : (n : ℕ) (bytes : List ℕ) → drop (8 * n) (bits_of bytes) ≡ bits_of (drop n bytes)
+bits_behind n bytes =
+    elim (within_or_past n (length bytes)) [ inl h ↦ drop_bits_of n bytes h | inr h ↦ past_end n bytes h ]

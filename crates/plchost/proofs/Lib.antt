@@ -3,5 +3,7 @@ pub mod FormLaws
 pub mod FrontLemmas
 pub mod Fronts
 pub mod ListingLemmas
+pub mod RunLemmas
+pub mod StreamLemmas
 pub mod TokenLaws
 pub mod WordLemmas

@@ -1,5 +1,7 @@
+pub mod Endings
 pub mod FirstForm
 pub mod Listing
+pub mod Preparing
 pub mod Reading
 pub mod Runs
 pub mod Tool

@@ -18,3 +18,22 @@ abbrev pub FileSeen : (name : List ℕ) → (faults faults' : List ℕ → ℕ) 
 FileSeen name faults faults' told None = Rose (faults name) (faults' name)
 FileSeen name faults faults' told (Some text) =
     ((other : List ℕ) → faults' other ≡ faults other) × IfSome told (λ bytes. text ≡ bytes)
+
+-- These bytes were added to what goes out: some have gone, and the rest is gathered behind them.
+abbrev pub Adds : (held held' : Option (List ℕ)) → (gathered gathered' added : List ℕ) → Type 0
+Adds held held' gathered gathered' added =
+    (gone : List ℕ) × (held' ≡ after_taking gone held) × (gone ++ gathered' ≡ gathered ++ added)
+
+-- A front of these bytes has gone out.
+abbrev pub PutsFront : (held held' : Option (List ℕ)) → (bytes : List ℕ) → Type 0
+PutsFront held held' bytes = (front rest : List ℕ) × (front ++ rest ≡ bytes) × (held' ≡ after_taking front held)
+
+-- What was seen of the shelf: the file that the words name, if they do, and no other count has changed.
+pub record ShelfSeen (words : List (List ℕ)) (faults faults' : List ℕ → ℕ) (counts_with : List ℕ → List ℕ → Type 0) (told : List ℕ → Option (List ℕ)) (file : Option (List ℕ)) : Type 0 where
+  pub named : (name kind : List ℕ) → AreDecode words name kind → FileSeen name faults faults' (told name) file
+  pub others : (other : List ℕ) → ((name kind : List ℕ) → AreDecode words name kind → counts_with name other → ⊥) → faults' other ≡ faults other
+
+-- What was taken from the input, and how it was left.
+pub record InputTaken (tape tape' : Option Tape) (ends ends' faults faults' : ℕ) (taken : List ℕ) (how : Option How) : Type 0 where
+  pub given : tape' ≡ after_giving taken tape
+  pub left : LeftSo how ends ends' faults faults' taken

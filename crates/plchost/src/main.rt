@@ -1,12 +1,15 @@
 //! The host of the protocols: its commands, and the first form of a description.
 #![tactic(auto)]
 
+mod faults;
 mod files;
 mod inputs;
 mod listings;
 mod plain_types;
+mod preparing;
 mod printing;
 mod tokens;
+mod values;
 mod words;
 
 use std::io;

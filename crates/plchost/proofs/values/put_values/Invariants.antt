@@ -1,0 +1,18 @@
+use Rattle.std.proofs.Common.{◌≡◌, ◌+◌, ◌*◌, ◌-◌, ℕ, List, [], ◌++◌, length, drop}
+use Rattle.node_tree.specs.Bits.{bits_of}
+use Rattle.node_tree.specs.declared.readings.Reading.{Reading}
+use Rattle.mspec_meaning.specs.Stream.{Stream, StreamFrom, Ending}
+use Rattle.plchost.specs.Tool.{listings}
+use Rattle.plchost.specs.Runs.{Adds}
+use Rattle.plchost.proofs.values.put_values.Given as goal
+
+-- These readings were put out or gathered, and whatever stream the bytes that are left give goes on from them.
+abbrev pub invariant-loop-at : goal.invariant-loop-at
+invariant-loop-at g l =
+    (readings : List Reading)
+    × Adds (g.K.Sink.held l.fn.out) (g.K.Sink.held l.out) l.fn.gathered.items l.gathered.items (listings l.d l.def readings)
+    × (g.K.Sink.faults l.out ≡ g.K.Sink.faults l.fn.out)
+    × ((more : List Reading) (ending : Ending) → StreamFrom l.d l.def [] (8 * l.at) (bits_of (drop l.at l.bytes)) more ending → Stream l.d l.def [] l.bytes (readings ++ more) ending)
+
+abbrev pub decreases-loop-at : goal.decreases-loop-at
+decreases-loop-at g l = length l.bytes - l.at

@@ -1,0 +1,39 @@
+ghost use Rattle.std.specs.Prelude.{◌≡◌};
+ghost use Rattle.plchost.specs.declared.faults.Cut.TheVariants.{NoMemory};
+
+use link_io::Failed;
+use std::alloc::{AllocError, AllocFailed};
+
+/// Why a run was cut off: its output failed, or memory ran out.
+#[derive(Clone, Copy, Debug, PartialEq, Eq)]
+pub enum Cut {
+    WriteFault,
+    NoMemory,
+}
+
+impl From<AllocError> for Cut {
+    ghost from_gives = { λ _ e. e ≡ NoMemory };
+
+    fn from(_error: AllocError) -> Cut {
+        Cut::NoMemory
+    }
+}
+
+impl<T: Drop> From<AllocFailed<T>> for Cut {
+    ghost from_gives = { λ _ e. e ≡ NoMemory };
+
+    fn from(_error: AllocFailed<T>) -> Cut {
+        Cut::NoMemory
+    }
+}
+
+impl From<Failed> for Cut {
+    ghost use Rattle.std.specs.Prelude.{◌≡◌};
+    ghost use Rattle.plchost.specs.declared.faults.Cut.TheVariants.{WriteFault};
+
+    ghost from_gives = { λ _ e. e ≡ WriteFault };
+
+    fn from(_error: Failed) -> Cut {
+        Cut::WriteFault
+    }
+}
