@@ -40,7 +40,7 @@ reserved =
     ∷ codes "COUNT" ∷ codes "CAST" ∷ codes "curPos" ∷ codes "lengthInBytes" ∷ codes "lastItem" ∷ codes "SUM_BYTES" ∷ codes "XOR_BYTES" ∷ []
 
 abbrev pub IsName : List ℕ → Type 0
-IsName word = IsWord word × (Contains reserved word → ⊥)
+IsName word = IsWord word × ¬ Contains reserved word
 
 -- ---- tokens
 
