@@ -77,7 +77,7 @@ past_end : (n : ℕ) (bytes : List ℕ) → length bytes ≤ n → drop (8 * n) 
 past_end n bytes h =
     drop_of_length-le (bits_of bytes) (omega (arith, length_bits_of bytes)) ∙ ap bits_of (sym (drop_of_length-le bytes h))
 
-within_or_past : (n m : ℕ) → (n ≤ m) ⊎ (m ≤ n)
+pub within_or_past : (n m : ℕ) → (n ≤ m) ⊎ (m ≤ n)
 within_or_past zero m = inl (omega arith)
 within_or_past (suc n) zero = inr (omega arith)
 within_or_past (suc n) (suc m) = elim (within_or_past n m) [ inl h ↦ inl (omega (arith, h)) | inr h ↦ inr (omega (arith, h)) ]

@@ -1,9 +1,12 @@
 pub mod FieldLaws
+pub mod FileLemmas
 pub mod FormLaws
+pub mod FormReads
 pub mod FrontLemmas
 pub mod Fronts
 pub mod ListingLemmas
 pub mod RunLemmas
 pub mod StreamLemmas
 pub mod TokenLaws
+pub mod ToolLemmas
 pub mod WordLemmas

@@ -28,3 +28,30 @@ PutsFront-after h0 h1 h2 t0 t1 a b x y =
 -- what stayed so
 pub Adds-same : (h0 h1 h2 : Option (List ℕ)) (t0 t1 t2 a : List ℕ) → Adds h0 h1 t0 t1 a → h2 ≡ h1 → t2 ≡ t1 → Adds h0 h2 t0 t2 a
 Adds-same h0 h1 h2 t0 t1 t2 a x held gathered = (x.0, held ∙ x.1, ap (λ (xs : List ℕ). x.0 ++ xs) gathered ∙ x.2)
+
+-- a front of the first part is a front of all
+pub front_of_first : (h0 h1 : Option (List ℕ)) (a b : List ℕ) → PutsFront h0 h1 a → PutsFront h0 h1 (a ++ b)
+front_of_first h0 h1 a b x =
+    (x.0, x.1 ++ b, sym (append_assoc x.0 x.1 b) ∙ ap (λ xs. xs ++ b) x.2, x.3)
+
+-- a front of the second part, behind the first
+pub front_of_second : (h0 h1 h2 : Option (List ℕ)) (a b : List ℕ) → h1 ≡ after_taking a h0 → PutsFront h1 h2 b → PutsFront h0 h2 (a ++ b)
+front_of_second h0 h1 h2 a b e x =
+    ( a ++ x.0
+    , x.1
+    , append_assoc a x.0 x.1 ∙ ap (λ xs. a ++ xs) x.2
+    , x.3 ∙ ap (after_taking x.0) e ∙ sym (after_taking-append a x.0 h0)
+    )
+
+-- all is a front of itself
+pub front_of_all : (h0 h1 : Option (List ℕ)) (a : List ℕ) → h1 ≡ after_taking a h0 → PutsFront h0 h1 a
+front_of_all h0 h1 a e = (a, [], append-nil a, e)
+
+-- nothing was added
+pub Adds-nothing : (h0 h1 : Option (List ℕ)) (t0 t1 : List ℕ) → h1 ≡ h0 → t1 ≡ t0 → Adds h0 h1 t0 t1 []
+Adds-nothing h0 h1 t0 t1 held gathered =
+    ([], held ∙ sym (after_taking-nil h0), gathered ∙ sym (append-nil t0))
+
+-- all that was added is gathered
+pub Adds-gathered : (h0 h1 : Option (List ℕ)) (t0 t1 a : List ℕ) → h1 ≡ h0 → t1 ≡ t0 ++ a → Adds h0 h1 t0 t1 a
+Adds-gathered h0 h1 t0 t1 a held gathered = ([], held ∙ sym (after_taking-nil h0), gathered)

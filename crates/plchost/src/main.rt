@@ -1,6 +1,7 @@
 //! The host of the protocols: its commands, and the first form of a description.
 #![tactic(auto)]
 
+mod closing;
 mod faults;
 mod files;
 mod inputs;
@@ -9,6 +10,7 @@ mod plain_types;
 mod preparing;
 mod printing;
 mod tokens;
+mod tool;
 mod values;
 mod words;
 

@@ -1,9 +1,10 @@
-ghost use Rattle.std.specs.Prelude.{◌≡◌, ◌<◌, ◌≤◌, ℕ, List, Some, Option, length, MatchResult, MatchOption};
+ghost use Rattle.std.specs.Prelude.{◌≡◌, ◌<◌, ◌≤◌, ℕ, List, Some, Option, length, IfOk, IfErr, MatchOption};
 ghost use Rattle.mspec_tree.specs.declared.defs.Description.{Description};
 ghost use Rattle.mspec_meaning.specs.Plain.{CanRead};
 ghost use Rattle.plchost.specs.FirstForm.{FirstForm};
 ghost use Rattle.plchost.specs.Tool.{AreDecode, Names};
-ghost use Rattle.plchost.specs.Runs.{FileSeen, ShelfSeen};
+ghost use Rattle.plchost.specs.Runs.{ShelfSeen};
+ghost use Rattle.plchost.specs.Preparing.{ComesToRefusal, from_file, from_form};
 
 use crate::files::{FileFault, read_file};
 use crate::plain_types::{FormFault, first_form};
@@ -42,4 +43,50 @@ fn def_named(d: &Description, name: &[u8]) -> Option<u16>
         }
     }
     None
+}
+
+/// Reads the file that the words name and finds their type in it.
+pub fn prepare<F: Shelf>(
+    alloc: Global,
+    words: &StringList,
+    files: &mut F,
+) -> Result<Prepared, Refusal>
+    ensures ready { IfOk result (λ ready. (name kind text : List ℕ) × AreDecode words.now name kind
+        × ShelfSeen words.now (F.faults files.old) (F.faults files.new) F.counts_with (F.file files.old) (Some text)
+        × FirstForm text ready.description × Names ready.description ready.def kind) }
+    ensures refused { IfErr result (λ refusal. (file : Option (List ℕ))
+        × ShelfSeen words.now (F.faults files.old) (F.faults files.new) F.counts_with (F.file files.old) file
+        × ((taken : List ℕ) → ComesToRefusal words.now file taken refusal)) }
+{
+    let Some(found) = decode_words(words) else {
+        return Err(Refusal::WordsRefused);
+    };
+    let text = read_file(alloc, files, found.file)?;
+    let description = first_form(alloc, &text)?;
+    match def_named(&description, found.kind) {
+        Some(def) => Ok(Prepared { description, def }),
+        None => Err(Refusal::TypeRefused),
+    }
+}
+
+impl From<FileFault> for Refusal {
+    ghost from_gives = { λ fault refusal. refusal ≡ from_file fault };
+
+    fn from(fault: FileFault) -> Refusal {
+        match fault {
+            FileFault::Failed => Refusal::FileFault,
+            FileFault::NoMemory => Refusal::NoMemory,
+        }
+    }
+}
+
+impl From<FormFault> for Refusal {
+    ghost from_gives = { λ fault refusal. refusal ≡ from_form fault };
+
+    fn from(fault: FormFault) -> Refusal {
+        match fault {
+            FormFault::NotBuilt => Refusal::NotBuilt,
+            FormFault::NoMemory => Refusal::NoMemory,
+        }
+    }
 }

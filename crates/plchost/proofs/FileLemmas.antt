@@ -1,0 +1,61 @@
+-- What was seen of a file of which a front was read.
+use Rattle.std.proofs.Common.{◌≡◌, ℕ, ◌≤◌, ◌⊎◌, List, [], length, take, Option, Some, None, refl, inl, inr, sym, ap, ◌∙◌, subst, arith}
+use Rattle.std.specs.Option.{IfSome}
+use Rattle.std.proofs.lemmas.List.{take_all, length-take}
+use Rattle.mspec_tree.specs.declared.defs.Description.{Description}
+use Rattle.link_io.specs.Counts.{Rose}
+use Rattle.plchost.specs.declared.files.FileFault.{FileFault}
+use Rattle.plchost.specs.declared.files.FileFault.TheVariants.{Failed, NoMemory}
+use Rattle.plchost.specs.declared.plain_types.FormFault.{FormFault}
+use Rattle.plchost.specs.declared.plain_types.FormFault.TheVariants.{NotBuilt}
+use Rattle.plchost.specs.declared.plain_types.FormFault.TheVariants as forms
+use Rattle.plchost.specs.Preparing.{ComesToRefusal, from_file, from_form}
+use Rattle.plchost.specs.FirstForm.{FirstForm}
+use Rattle.plchost.specs.Tool.{AreDecode}
+use Rattle.plchost.specs.Runs.{FileSeen, ShelfSeen}
+use Rattle.plchost.proofs.WordLemmas.{one_decode}
+
+-- the front of a file that is within the limit is the file
+whole_text : (text bytes : List ℕ) → text ≡ take 1048577 bytes → length text ≤ 1048576 → text ≡ bytes
+whole_text text bytes front short =
+    let few : length bytes ≤ 1048577 = omega (arith, ap length front, length-take 1048577 bytes) in
+    front ∙ take_all 1048577 bytes few
+
+pub text_seen : (told : Option (List ℕ)) (text : List ℕ) (d : Description) → IfSome told (λ bytes. text ≡ take 1048577 bytes) → FirstForm text d → IfSome told (λ bytes. text ≡ bytes)
+text_seen None text d front form = tt
+text_seen (Some bytes) text d front form = whole_text text bytes front form.1
+
+pub refused_seen : (told : Option (List ℕ)) (text : List ℕ) → IfSome told (λ bytes. text ≡ take 1048577 bytes) → ((d : Description) → FirstForm text d → ⊥) → (seen : List ℕ) × IfSome told (λ bytes. seen ≡ bytes) × ((d : Description) → FirstForm seen d → ⊥)
+refused_seen None text front none = (text, tt, none)
+refused_seen (Some bytes) text front none =
+    (bytes, refl, λ d form. none d (subst (λ (t : List ℕ). FirstForm t d) (sym (front ∙ take_all 1048577 bytes (omega (arith, form.1)))) form))
+
+-- some bytes that agree with what is told
+pub some_seen : (told : Option (List ℕ)) → (seen : List ℕ) × IfSome told (λ bytes. seen ≡ bytes)
+some_seen None = ([], tt)
+some_seen (Some bytes) = (bytes, refl)
+
+pub seen_by : (words : List (List ℕ)) (name kind : List ℕ) (faults faults' : List ℕ → ℕ) (counts_with : List ℕ → List ℕ → Type 0) (told : List ℕ → Option (List ℕ)) (file : Option (List ℕ)) → AreDecode words name kind → FileSeen name faults faults' (told name) file → ((other : List ℕ) → (counts_with name other → ⊥) → faults' other ≡ faults other) → ShelfSeen words faults faults' counts_with told file
+seen_by words name kind faults faults' counts_with told file decode seen others =
+    record {
+      named = λ other type w. subst (λ (n : List ℕ). FileSeen n faults faults' (told n) file) (one_decode words name kind other type decode w).0 seen;
+      others = λ other h. others other (h name kind decode);
+    }
+
+-- a fault of the file, and what was seen
+pub failed_seen : (words : List (List ℕ)) (name kind : List ℕ) (faults faults' : List ℕ → ℕ) (counts_with : List ℕ → List ℕ → Type 0) (told : List ℕ → Option (List ℕ)) (e : FileFault) → AreDecode words name kind → (e ≡ Failed → Rose (faults name) (faults' name)) → ((e ≡ Failed) ⊎ ((other : List ℕ) → faults' other ≡ faults other)) → ((other : List ℕ) → (counts_with name other → ⊥) → faults' other ≡ faults other) → (file : Option (List ℕ)) × ShelfSeen words faults faults' counts_with told file × ((taken : List ℕ) → ComesToRefusal words file taken (from_file e))
+failed_seen words name kind faults faults' counts_with told Failed decode rose kept others =
+    (None, seen_by words name kind faults faults' counts_with told None decode (rose refl) others, λ taken. (name, kind, decode, refl))
+failed_seen words name kind faults faults' counts_with told NoMemory decode rose kept others =
+    let some = some_seen (told name) in
+    let same : (other : List ℕ) → faults' other ≡ faults other = elim kept [ inl bad ↦ absurd cc | inr same ↦ same ] in
+    (Some some.0, seen_by words name kind faults faults' counts_with told (Some some.0) decode (same, some.1) others, λ taken. tt)
+
+-- a text outside the first form, or want of memory, and what was seen
+pub unformed_seen : (words : List (List ℕ)) (name kind text : List ℕ) (faults faults' : List ℕ → ℕ) (counts_with : List ℕ → List ℕ → Type 0) (told : List ℕ → Option (List ℕ)) (e : FormFault) → AreDecode words name kind → ((other : List ℕ) → faults' other ≡ faults other) → IfSome (told name) (λ bytes. text ≡ take 1048577 bytes) → (e ≡ NotBuilt → (d : Description) → FirstForm text d → ⊥) → (file : Option (List ℕ)) × ShelfSeen words faults faults' counts_with told file × ((taken : List ℕ) → ComesToRefusal words file taken (from_form e))
+unformed_seen words name kind text faults faults' counts_with told NotBuilt decode same front none =
+    let seen = refused_seen (told name) text front (none refl) in
+    (Some seen.0, seen_by words name kind faults faults' counts_with told (Some seen.0) decode (same, seen.1) (λ other _. same other), λ taken. (name, kind, seen.0, decode, refl, seen.2))
+unformed_seen words name kind text faults faults' counts_with told forms.NoMemory decode same front none =
+    let some = some_seen (told name) in
+    (Some some.0, seen_by words name kind faults faults' counts_with told (Some some.0) decode (same, some.1) (λ other _. same other), λ taken. tt)

@@ -1,0 +1,67 @@
+-- What a run says, and the fronts of it that a run that was cut off has said.
+use Rattle.std.proofs.Common.{◌≡◌, ℕ, ◌≤◌, ◌⊎◌, List, [], ◌∷◌, ◌++◌, length, take, min, Option, Some, None, Result, Ok, Err, refl, inl, inr, sym, ap, ◌∙◌, subst, append_assoc, arith}
+use Rattle.std.specs.Result.{IfOk}
+use Rattle.std.specs.List.{flat_map}
+use Rattle.std.proofs.lemmas.Grind.{flat_map-append}
+use Rattle.std.proofs.lemmas.List.{take_all}
+use Rattle.node_tree.specs.declared.readings.Reading.{Reading}
+use Rattle.node_tree.proofs.BitsLemmas.{within_or_past}
+use Rattle.mspec_tree.specs.declared.defs.Description.{Description}
+use Rattle.mspec_meaning.specs.Stream.{Stream, Ending}
+use Rattle.link_io.specs.Streams.{Tape, after_giving-nil}
+use Rattle.plchost.specs.declared.inputs.How.{How}
+use Rattle.plchost.specs.declared.preparing.Refusal.{Refusal}
+use Rattle.plchost.specs.declared.preparing.Refusal.TheVariants as refusals
+use Rattle.plchost.specs.FirstForm.{FirstForm}
+use Rattle.plchost.specs.Listing.{listing, fields_at}
+use Rattle.plchost.specs.Preparing.{ComesToRefusal, refusal_said}
+use Rattle.plchost.specs.Runs.{InputTaken}
+use Rattle.plchost.specs.Tool.{AreDecode, Names, ComesTo, WordsRefused, FileFault, NotBuilt, TypeRefused, Values, Tool, IsFront, said, listings, last_said}
+
+-- an input that was left alone
+pub untouched : (tape : Option Tape) (ends faults : ℕ) → InputTaken tape tape ends ends faults faults [] None
+untouched tape ends faults = record { given = sym (after_giving-nil tape); left = (refl, refl) }
+
+pub both_ok : {T E : Type 0} (r : Result T E) (P Q R : T → Type 0) → IfOk r P → IfOk r Q → ((x : T) → P x → Q x → R x) → IfOk r R
+both_ok (Ok x) P Q R p q f = f x p q
+both_ok (Err e) P Q R p q f = tt
+
+-- what a refusal says is what the tool says
+pub refusal_tool : (words : List (List ℕ)) (file : Option (List ℕ)) (r : Refusal) → (r ≡ refusals.NoMemory → ⊥) → ((taken : List ℕ) → ComesToRefusal words file taken r) → Tool words file [] None (refusal_said r)
+refusal_tool words file refusals.WordsRefused h comes = (WordsRefused, comes [], tt, refl)
+refusal_tool words file refusals.FileFault h comes = (FileFault, comes [], tt, refl)
+refusal_tool words file refusals.NotBuilt h comes = (NotBuilt, comes [], tt, refl)
+refusal_tool words file refusals.TypeRefused h comes = (TypeRefused, comes [], tt, refl)
+refusal_tool words file refusals.NoMemory h comes = absurd (h refl)
+
+-- the bytes that count
+pub counted : (n : ℕ) (bytes : List ℕ) → take (min (length bytes) n) bytes ≡ take n bytes
+counted n bytes = elim (within_or_past (length bytes) n) [
+  inl h ↦ ap (λ m. take m bytes) (omega arith) ∙ take_all (length bytes) bytes (omega arith) ∙ sym (take_all n bytes h)
+  | inr h ↦ ap (λ m. take m bytes) (omega arith)
+]
+
+-- the words, the file and the type lead to these values
+pub comes_to_values : (words : List (List ℕ)) (name kind text taken bytes : List ℕ) (d : Description) (def : ℕ) (readings : List Reading) (ending : Ending) → AreDecode words name kind → FirstForm text d → Names d def kind → bytes ≡ take 16777216 taken → Stream d def [] bytes readings ending → ComesTo words (Some text) taken (Values d def readings ending)
+comes_to_values words name kind text taken bytes d def readings ending decode form named e stream =
+    (name, kind, text, decode, refl, form, named, subst (λ (bs : List ℕ). Stream d def [] bs readings ending) e stream)
+
+-- the listings of the first values are a front
+pub front_of_values : (words : List (List ℕ)) (file : Option (List ℕ)) (taken : List ℕ) (how : Option How) (d : Description) (def : ℕ) (front back : List Reading) (ending : Ending) → ComesTo words file taken (Values d def (front ++ back) ending) → IsFront words file taken how (listings d def front)
+front_of_values words file taken how d def front back ending comes =
+    let all = flat_map-append (λ (r : Reading). listing (fields_at d def) r.node) front back in
+    inr
+      ( Values d def (front ++ back) ending
+      , listings d def back ++ (last_said how ending).text
+      , comes
+      , sym (append_assoc (listings d def front) (listings d def back) (last_said how ending).text) ∙ ap (λ (xs : List ℕ). xs ++ (last_said how ending).text) (sym all)
+      )
+
+-- the listings of all values are a front
+pub front_before_last : (words : List (List ℕ)) (file : Option (List ℕ)) (taken : List ℕ) (how : Option How) (d : Description) (def : ℕ) (readings : List Reading) (ending : Ending) → ComesTo words file taken (Values d def readings ending) → IsFront words file taken how (listings d def readings)
+front_before_last words file taken how d def readings ending comes =
+    inr (Values d def readings ending, (last_said how ending).text, comes, refl)
+
+-- the values, read to their end
+pub values_tool : (words : List (List ℕ)) (file : Option (List ℕ)) (taken : List ℕ) (how : How) (d : Description) (def : ℕ) (readings : List Reading) (ending : Ending) → ComesTo words file taken (Values d def readings ending) → Tool words file taken (Some how) (said (Some how) (Values d def readings ending))
+values_tool words file taken how d def readings ending comes = (Values d def readings ending, comes, tt, refl)

@@ -1,0 +1,135 @@
+ghost use Rattle.std.specs.Prelude.{◌≡◌, ◌≢◌, ◌<◌, ◌⊎◌, ℕ, List, ◌++◌, Option, codes, Ok, Err, IfOk, OnOk, OnErr};
+ghost use Rattle.link_io.specs.Counts.{Rose, top};
+ghost use Rattle.link_io.specs.Streams.{after_taking};
+ghost use Rattle.plchost.specs.declared.inputs.How.{How};
+ghost use Rattle.plchost.specs.Tool.{AreDecode, Said, Tool, IsFront};
+ghost use Rattle.plchost.specs.Runs.{Adds, PutsFront, ShelfSeen, InputTaken};
+
+use crate::closing::{close, say};
+use crate::faults::Cut;
+use crate::inputs::{INPUT_LIMIT, read_input};
+use crate::preparing::prepare;
+use crate::printing::put_all;
+use crate::values::put_values;
+use link_io::{Failed, Shelf, Sink, Source, StringList};
+use std::alloc::Global;
+
+/// The status of a run whose output failed.
+const WRITE_FAULT: u8 = 5;
+
+/// The status of a run that memory didn't suffice for.
+const NO_MEMORY: u8 = 8;
+
+/// Adds what the run says to what is gathered, of which some may go out on the way, and answers the status.
+fn run<F: Shelf, S: Source, K: Sink>(
+    alloc: Global,
+    words: &StringList,
+    files: &mut F,
+    input: &mut S,
+    out: &mut K,
+    gathered: &mut Vec<u8>,
+) -> Result<u8, Cut>
+    ensures said { IfOk result (λ status. (file : Option (List ℕ)) × (taken : List ℕ) × (how : Option How) × (told : Said)
+        × ShelfSeen words.now (F.faults files.old) (F.faults files.new) F.counts_with (F.file files.old) file
+        × InputTaken (S.told input.old) (S.told input.new) (S.ends input.old) (S.ends input.new) (S.faults input.old) (S.faults input.new) taken how
+        × Tool words.now file taken how told
+        × Adds (K.held out.old) (K.held out.new) gathered.old.items gathered.new.items told.text
+        × (status ≡ told.status)) }
+    ensures no_fault { result ≡ Err Cut.WriteFault ⊎ (K.faults out.new ≡ K.faults out.old) }
+    ensures no_memory { result ≡ Err Cut.NoMemory → (file : Option (List ℕ)) × (taken : List ℕ) × (how : Option How) × (front : List ℕ)
+        × ShelfSeen words.now (F.faults files.old) (F.faults files.new) F.counts_with (F.file files.old) file
+        × InputTaken (S.told input.old) (S.told input.new) (S.ends input.old) (S.ends input.new) (S.faults input.old) (S.faults input.new) taken how
+        × IsFront words.now file taken how front
+        × Adds (K.held out.old) (K.held out.new) gathered.old.items gathered.new.items front }
+    ensures cut { result ≡ Err Cut.WriteFault → (file : Option (List ℕ)) × (taken : List ℕ) × (how : Option How) × (front : List ℕ)
+        × ShelfSeen words.now (F.faults files.old) (F.faults files.new) F.counts_with (F.file files.old) file
+        × InputTaken (S.told input.old) (S.told input.new) (S.ends input.old) (S.ends input.new) (S.faults input.old) (S.faults input.new) taken how
+        × IsFront words.now file taken how front
+        × PutsFront (K.held out.old) (K.held out.new) (gathered.old.items ++ front) }
+    ensures fault { result ≡ Err Cut.WriteFault → Rose (K.faults out.old) (K.faults out.new) }
+{
+    let ready = match prepare(alloc, words, files) {
+        Ok(ready) => ready,
+        Err(refusal) => return say(gathered, refusal),
+    };
+    let capture = read_input(alloc, input)?;
+    let counted = capture.bytes.len().min(INPUT_LIMIT);
+    let rest = put_values(
+        alloc,
+        out,
+        gathered,
+        &ready.description,
+        ready.def,
+        &capture.bytes[..counted],
+    )?;
+    let status = close(alloc, gathered, capture.how, rest)?;
+    Ok(status)
+}
+
+/// Puts the rest of a run's text out, and its last line, and answers its status, or that of a write fault.
+fn finish<K: Sink>(out: &mut K, gathered: &[u8], last: &[u8], status: u8) -> u8
+    requires { status ≢ 5 }
+    ensures done { result ≢ 5 → (result ≡ status)
+        × (K.held out.new ≡ after_taking (gathered.now ++ last.now) (K.held out.old))
+        × (K.faults out.new ≡ K.faults out.old) }
+    ensures cut { result ≡ 5 → PutsFront (K.held out.old) (K.held out.new) (gathered.now ++ last.now)
+        × Rose (K.faults out.old) (K.faults out.new) }
+{
+    match put_and_flush(out, gathered, last) {
+        Ok(()) => status,
+        Err(Failed) => WRITE_FAULT,
+    }
+}
+
+fn put_and_flush<K: Sink>(out: &mut K, gathered: &[u8], last: &[u8]) -> Result<(), Failed>
+    ensures put { OnOk result ((K.held out.new ≡ after_taking (gathered.now ++ last.now) (K.held out.old))
+        × (K.faults out.new ≡ K.faults out.old)) }
+    ensures cut { OnErr result (PutsFront (K.held out.old) (K.held out.new) (gathered.now ++ last.now)
+        × Rose (K.faults out.old) (K.faults out.new)) }
+{
+    put_all(out, gathered)?;
+    put_all(out, last)?;
+    out.flush()
+}
+
+/// Runs the program's commands over files, an input and an output, and answers the status.
+///
+/// So far there is one command, `decode FILE TYPE`: FILE names a description in the first form, and the input is
+/// read as values of TYPE one after another, each put out as its listing and an empty line.
+pub fn tool_main<F: Shelf, S: Source, K: Sink>(
+    alloc: Global,
+    words: &StringList,
+    files: &mut F,
+    input: &mut S,
+    out: &mut K,
+) -> u8
+    // What is put out is the tool's text, and the status is the tool's.
+    ensures said { result ≢ 5 → result ≢ 8 → (file : Option (List ℕ)) × (taken : List ℕ) × (how : Option How) × (told : Said)
+        × ShelfSeen words.now (F.faults files.old) (F.faults files.new) F.counts_with (F.file files.old) file
+        × InputTaken (S.told input.old) (S.told input.new) (S.ends input.old) (S.ends input.new) (S.faults input.old) (S.faults input.new) taken how
+        × Tool words.now file taken how told
+        × (K.held out.new ≡ after_taking told.text (K.held out.old))
+        × (result ≡ told.status) }
+    // Where memory ran out it is a front of that text, and then a line that says so.
+    ensures no_memory { result ≡ 8 → (file : Option (List ℕ)) × (taken : List ℕ) × (how : Option How) × (front : List ℕ)
+        × ShelfSeen words.now (F.faults files.old) (F.faults files.new) F.counts_with (F.file files.old) file
+        × InputTaken (S.told input.old) (S.told input.new) (S.ends input.old) (S.ends input.new) (S.faults input.old) (S.faults input.new) taken how
+        × IsFront words.now file taken how front
+        × (K.held out.new ≡ after_taking (front ++ codes "no memory\n") (K.held out.old)) }
+    // Where the output failed it is a front of what would have been put out otherwise.
+    ensures write_fault { result ≡ 5 → (file : Option (List ℕ)) × (taken : List ℕ) × (how : Option How) × (whole : List ℕ)
+        × ShelfSeen words.now (F.faults files.old) (F.faults files.new) F.counts_with (F.file files.old) file
+        × InputTaken (S.told input.old) (S.told input.new) (S.ends input.old) (S.ends input.new) (S.faults input.old) (S.faults input.new) taken how
+        × (IsFront words.now file taken how whole
+            ⊎ ((front : List ℕ) × IsFront words.now file taken how front × (whole ≡ front ++ codes "no memory\n")))
+        × PutsFront (K.held out.old) (K.held out.new) whole }
+    ensures out_failed { result ≡ 5 → Rose (K.faults out.old) (K.faults out.new) }
+    ensures out_well { result ≢ 5 → K.faults out.new ≡ K.faults out.old }
+{
+    let mut gathered = Vec::new(alloc);
+    match run(alloc, words, files, input, out, &mut gathered) {
+        Ok(status) => finish(out, &gathered, b"", status),
+        Err(Cut::NoMemory) => finish(out, &gathered, b"no memory\n", NO_MEMORY),
+        Err(Cut::WriteFault) => WRITE_FAULT,
+    }
+}
