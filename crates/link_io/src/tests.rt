@@ -1,7 +1,7 @@
 //! Each object once through a function that knows its trait alone, and once failing in mid-stream.
-ghost use Rattle.std.specs.Prelude.{◌≡◌, ◌≤◌, ◌++◌, ℕ, List, take, length, Err, IfOk, OnOk, OnErr, IfSome};
+ghost use Rattle.std.specs.Prelude.{◌≡◌, ℕ, List, take, IfOk, OnOk, IfSome};
 ghost use Rattle.link_io.specs.Counts.{Rose};
-ghost use Rattle.link_io.specs.Streams.{after_giving, AreNext, AreAllLeft, after_taking};
+ghost use Rattle.link_io.specs.Streams.{after_giving, AreAllLeft, after_taking};
 
 use super::*;
 use std::alloc::{AllocError, Global};
