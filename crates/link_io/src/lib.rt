@@ -18,7 +18,6 @@ mod tests;
 mod texts;
 mod traits;
 
-pub use counts::Count;
 pub use file_shelves::FileShelf;
 pub use mem_shelves::MemShelf;
 pub use mem_sinks::MemSink;

@@ -1,4 +1,4 @@
-ghost use Rattle.std.specs.Prelude.{◌≡◌, ◌<◌, ◌≤◌, ◌↔◌, ◌++◌, ℕ, Option, Some, Ok, List, map, length, take, drop, min, ◌-◌, replicate, slice_index, slice_set, IsErr, IfOk, IfSome, OnOk, OnErr};
+ghost use Rattle.std.specs.Prelude.{◌≡◌, ◌<◌, ◌≤◌, ◌↔◌, ◌++◌, ℕ, List, map, length, take, drop, min, ◌-◌, replicate, slice_index, slice_set, IsErr, IfOk, IfSome, OnOk, OnErr};
 ghost use Rattle.std.specs.Option.{option_map};
 ghost use Rattle.std.specs.String.{string_bytes};
 ghost use Rattle.link_io.specs.Counts.{Rose, next};
@@ -92,7 +92,8 @@ impl Shelf for MemShelf {
         ensures ok { OnOk result (self.new ≡ record self.old { calls = after_call self.old.calls }) }
         ensures err { OnErr result (self.new ≡ after_failed_read_of self.old name.now) }
         ensures untouched { OnErr result (to.new ≡ to.old) }
-        ensures at_end { result ≡ Ok 0 → IfSome (file_of self.old.files name.now) (λ bytes. length bytes ≤ from) }
+        ensures at_end { result ≡ Ok 0
+            → IfSome (file_of self.old.files name.now) (λ bytes. length bytes ≤ from) }
         ensures failed { OnErr result (Rose (faults_of self.old name.now) (faults_of self.new name.now)) }
         ensures others { (other : List ℕ) → (place_of name.now ≡ place_of other → ⊥)
             → faults_of self.new other ≡ faults_of self.old other }
@@ -114,9 +115,12 @@ impl Shelf for MemShelf {
 
 /// Raises the count of a name.
 fn raise(counts: &mut [Count; PLACES], name: &str)
-    ensures raised { counts.new ≡ slice_set counts.old (place_of name.now) (next (slice_index counts.old (place_of name.now))) }
-    ensures rose { Rose (slice_index counts.old (place_of name.now)) (slice_index counts.new (place_of name.now)) }
-    ensures grows { slice_index counts.old (place_of name.now) ≤ slice_index counts.new (place_of name.now) }
+    ensures raised { let at = place_of name.now in
+        counts.new ≡ slice_set counts.old at (next (slice_index counts.old at)) }
+    ensures rose { let at = place_of name.now in
+        Rose (slice_index counts.old at) (slice_index counts.new at) }
+    ensures grows { let at = place_of name.now in
+        slice_index counts.old at ≤ slice_index counts.new at }
 {
     let count = &mut counts[place(name)];
     count.rise();

@@ -1,5 +1,4 @@
-ghost use Rattle.std.specs.Prelude.{◌≡◌, ◌<◌, ◌≤◌, ◌↔◌, ◌++◌, [], Ok, Some, length, take, drop, IsErr, IfOk, OnOk, OnErr};
-ghost use Rattle.link_io.specs.Counts.{Rose};
+ghost use Rattle.std.specs.Prelude.{◌≡◌, ◌<◌, ◌≤◌, ◌↔◌, ◌++◌, [], Some, length, take, drop, IsErr, IfOk, OnErr};
 ghost use Rattle.link_io.specs.Memory.{NextFails, read_count, after_read, after_failed_read};
 
 use crate::calls::Calls;
@@ -44,7 +43,7 @@ impl MemSource {
     /// A source that gives each read as many bytes as there is room for.
     pub fn new(bytes: Vec<u8>, fails: Vec<u64>) -> MemSource
         ensures tape { result.tape ≡ record { given = []; left = bytes.items } }
-        ensures piece { length bytes.items ≤ result.piece }
+        ensures piece { result.piece ≡ usize.MAX }
         ensures calls { result.calls ≡ record { made = 0; failing = fails.items } }
         ensures counts { (result.faults ≡ 0) × (result.ends ≡ 0) }
     {

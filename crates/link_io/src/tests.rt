@@ -1,7 +1,7 @@
 //! Each object once through a function that knows its trait alone, and once failing in mid-stream.
-ghost use Rattle.std.specs.Prelude.{◌≡◌, ◌≤◌, ◌++◌, ℕ, List, take, length, Err, IfOk, OnOk, OnErr, IfSome};
+ghost use Rattle.std.specs.Prelude.{◌≡◌, ℕ, List, take, IfOk, OnOk, IfSome};
 ghost use Rattle.link_io.specs.Counts.{Rose};
-ghost use Rattle.link_io.specs.Streams.{after_giving, AreNext, AreAllLeft, after_taking};
+ghost use Rattle.link_io.specs.Streams.{after_giving, AreAllLeft, after_taking};
 
 use super::*;
 use std::alloc::{AllocError, Global};
@@ -188,43 +188,59 @@ fn a_list_of_texts_keeps_their_order(rt: HostRuntime) -> Result<(), Fail> {
     Ok(())
 }
 
+/// A name for a file of this process alone.
+fn temp_name(rt: &HostRuntime, word: &str) -> io::Result<String> {
+    let folder = env::temp_dir(rt)?;
+    let folder = folder.as_path().to_string_lossy();
+    let process = process::id(rt.process());
+    Ok(format!(in rt.alloc(); "{folder}/link_io_{process}_{word}.tmp")?)
+}
+
 #[test]
 fn a_real_file_is_written_and_read(rt: HostRuntime) -> Result<(), Fail> {
-    let alloc = rt.alloc();
-    let path = format!(in alloc;
-        "{}/link_io_{}.tmp",
-        env::temp_dir(&rt)?.as_path().to_string_lossy(),
-        process::id(rt.process())
-    )?;
-    let name = path.as_str();
-
-    let mut sink = StdSink::new(fs::create(&rt, name)?);
+    let name = temp_name(&rt, "streams")?;
+    let mut sink = StdSink::new(fs::create(&rt, name.as_str())?);
     assert_eq!(rt; write_whole(&mut sink, b"0123456789"), Ok(()));
-    assert_eq!(rt; sink.faults(), 0);
-
-    let mut source = StdSource::new(fs::open(&rt, name)?);
-    let whole = read_whole(alloc, &mut source)?;
+    let mut source = StdSource::new(fs::open(&rt, name.as_str())?);
+    let whole = read_whole(rt.alloc(), &mut source)?;
     assert_eq!(rt; whole.as_slice(), b"0123456789".as_slice());
-    assert_eq!(rt; source.ends(), 1);
-    assert_eq!(rt; source.faults(), 0);
+    assert_eq!(rt; (sink.faults(), source.faults(), source.ends()), (0, 0, 1));
+    fs::remove_file(&rt, name.as_str())?;
+    Ok(())
+}
 
-    let mut shelf = FileShelf::new(rt, alloc);
-    let whole = read_file(alloc, &mut shelf, name)?;
+#[test]
+fn a_real_file_is_read_at_an_offset(rt: HostRuntime) -> Result<(), Fail> {
+    let name = temp_name(&rt, "shelf")?;
+    fs::write(&rt, name.as_str(), b"0123456789".as_slice())?;
+    let mut shelf = FileShelf::new(rt, rt.alloc());
+    let whole = read_file(rt.alloc(), &mut shelf, name.as_str())?;
     assert_eq!(rt; whole.as_slice(), b"0123456789".as_slice());
     let mut back = [0u8; 2];
-    assert_eq!(rt; shelf.read_at(name, 4, &mut back), Ok(2));
+    assert_eq!(rt; shelf.read_at(name.as_str(), 4, &mut back), Ok(2));
     assert_eq!(rt; back, *b"45");
     assert_eq!(rt; shelf.faults(), 0);
+    fs::remove_file(&rt, name.as_str())?;
+    Ok(())
+}
 
-    // A file that was opened to be read takes nothing, and one that is gone can't be opened.
-    let mut closed = StdSink::new(fs::open(&rt, name)?);
-    assert_eq!(rt; write_whole(&mut closed, b"0"), Err(Stopped::ByFault));
-    assert_eq!(rt; closed.faults(), 1);
-    fs::remove_file(&rt, name)?;
+#[test]
+fn real_faults_are_counted(rt: HostRuntime) -> Result<(), Fail> {
+    let name = temp_name(&rt, "faults")?;
+    fs::write(&rt, name.as_str(), b"0".as_slice())?;
+    let mut sink = StdSink::new(fs::open(&rt, name.as_str())?);
     assert_eq!(rt;
-        read_file(alloc, &mut FileShelf::new(rt, alloc), name).err(),
+        write_whole(&mut sink, b"1"),
+        Err(Stopped::ByFault),
+        "it was opened to be read"
+    );
+    fs::remove_file(&rt, name.as_str())?;
+    let mut shelf = FileShelf::new(rt, rt.alloc());
+    assert_eq!(rt;
+        read_file(rt.alloc(), &mut shelf, name.as_str()).err(),
         Some(Stopped::ByFault)
     );
+    assert_eq!(rt; (sink.faults(), shelf.faults()), (1, 1));
     Ok(())
 }
 

@@ -1,4 +1,4 @@
-use Rattle.std.proofs.Common.{◌≡◌, ◌≤◌, ◌++◌, ◌∙◌, List, ℕ, IfSome, length, take, drop, arith}
+use Rattle.std.proofs.Common.{◌≡◌, ◌++◌, ◌∙◌, IfSome, length, take, drop, arith}
 use Rattle.link_io.specs.Streams.{AreFirst-append}
 use Rattle.link_io.proofs.tests.read_file.Goals as goal
 

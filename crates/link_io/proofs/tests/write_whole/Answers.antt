@@ -1,4 +1,4 @@
-use Rattle.std.proofs.Common.{◌≡◌, ◌<◌, ◌≤◌, ◌-◌, ◌∙◌, length, take, drop, take_all, arith, take-add, length-drop}
+use Rattle.std.proofs.Common.{◌≡◌, ◌<◌, ◌-◌, ◌∙◌, length, take, drop, take_all, arith, take-add, length-drop}
 use Rattle.link_io.specs.Streams.{after_taking-append}
 use Rattle.link_io.proofs.tests.write_whole.Goals as goal
 
