@@ -1,11 +1,10 @@
 -- Each value of a plain type, and each stream of them, has exactly one outcome.
-use Rattle.std.proofs.Common.{◌≡◌, ◌≢◌, ℕ, ℤ, zero, suc, ◌+◌, ◌*◌, ◌%◌, ◌<◌, ◌≤◌, ◌⊎◌, Bool, true, false, List, [], ◌∷◌, ◌++◌, length, drop, Option, Some, None, Result, Ok, Err, slice_get, refl, sym, ap, ◌∙◌, subst, inl, inr, arith}
+use Rattle.std.proofs.Common.{◌≡◌, ◌≢◌, ℕ, ℤ, zero, suc, ◌+◌, ◌%◌, ◌<◌, ◌≤◌, ◌⊎◌, Bool, List, [], ◌∷◌, length, drop, None, Result, Ok, Err, refl, sym, subst, inl, inr, arith}
 use Rattle.std.proofs.lemmas.List.{length-drop}
 use Rattle.node_tree.specs.declared.readings.Reading.{Reading}
 use Rattle.node_tree.specs.declared.faults.ReadWhy.TheVariants.{ZeroItem}
 use Rattle.mspec_tree.specs.declared.words.ByteOrder.TheVariants.{Big}
 use Rattle.mspec_tree.specs.declared.fields.Field.{Field}
-use Rattle.mspec_tree.specs.declared.defs.Def.{Def}
 use Rattle.mspec_tree.specs.declared.defs.DefBody.{DefBody}
 use Rattle.mspec_tree.specs.declared.defs.DefBody.TheVariants.{Plain as PlainFields}
 use Rattle.mspec_tree.specs.declared.defs.Description.{Description}
@@ -28,8 +27,8 @@ fields_outcome : (fields : List Field) → ArePlain fields → (at : ℕ) (bits 
 fields_outcome [] plain at bits = (Ok [], refl)
 fields_outcome (field ∷ fields) plain at bits =
     joined field fields at bits (number_read Big plain.0.1.0 at bits)
-      (plain_reads field plain.0.1.0 at bits (number_read Big plain.0.1.0 at bits) plain.0.0 plain.0.1.1 refl)
-      (λ next. fields_outcome fields plain.1 next bits)
+    (plain_reads field plain.0.1.0 at bits (number_read Big plain.0.1.0 at bits) plain.0.0 plain.0.1.1 refl)
+    (λ next. fields_outcome fields plain.1 next bits)
 
 as_reading : (fields : List Field) (bits : List Bool) (outcome : Result (List Part) Fault) → FieldsRead None fields 0 bits outcome → (reading : Result Reading Fault) × DefReads None (PlainFields fields) bits reading
 as_reading fields bits (Ok parts) read = (Ok (group_of parts), (parts, read, refl))
@@ -68,9 +67,9 @@ aligned_or_not n = elim (zero_or_more (n % 8)) [ inl z ↦ inl z | inr more ↦ 
 from_reading : (d : Description) (def : ℕ) (args : List ℤ) (at : ℕ) (bit : Bool) (bits : List Bool) (reading : Reading) → Reads d def args (bit ∷ bits) (Ok reading) → (0 < reading.bits → SomeStream d def args (at + reading.bits) (drop reading.bits (bit ∷ bits))) → SomeStream d def args at (bit ∷ bits)
 from_reading d def args at bit bits reading read rest =
     elim (zero_or_more reading.bits) [
-      inl none ↦ ([], Refused at (Value ZeroItem), (not_nil bit bits, inr ((reading, read, none), refl, refl)))
+      | inl none ↦ ([], Refused at (Value ZeroItem), (not_nil bit bits, inr ((reading, read, none), refl, refl)))
       | inr some ↦ elim (aligned_or_not reading.bits) [
-        inl whole ↦ (reading ∷ (rest some).0, (rest some).1, (not_nil bit bits, read, some, whole, (rest some).2))
+        | inl whole ↦ (reading ∷ (rest some).0, (rest some).1, (not_nil bit bits, read, some, whole, (rest some).2))
         | inr part ↦ ([], Refused (at + reading.bits) Unaligned, (not_nil bit bits, (reading, read, part, refl)))
       ]
     ]

@@ -1,5 +1,5 @@
 -- A description in the first form can be read.
-use Rattle.std.proofs.Common.{◌≡◌, ℕ, zero, suc, ◌⊎◌, List, [], ◌∷◌, length, map, slice_get, Option, Some, None, refl, inl, inr, sym, ap, ◌∙◌, subst, arith}
+use Rattle.std.proofs.Common.{◌≡◌, ℕ, zero, suc, List, [], ◌∷◌, length, map, slice_get, Some, refl, inl, inr, sym, ap, ◌∙◌, subst, arith}
 use Rattle.std.proofs.lemmas.Option.{slice_get_within}
 use Rattle.mspec_tree.specs.declared.words.Simple.TheVariants.{Uint}
 use Rattle.mspec_tree.specs.declared.exprs.Ref.TheVariants.{Plain as PlainRef}
@@ -24,10 +24,10 @@ is_width Bits64 = inr (inr (inr refl))
 
 are_plain : (fields : List PlainField) → ArePlain (map field_tree fields)
 are_plain [] = tt
-are_plain (f ∷ fields) =
-    ( (refl, (bits f.width, subst (λ (body : Body-F Body Case Field). HasWidth body (bits f.width)) (sym (outs-Simple (PlainRef (Uint (bits f.width))))) (refl, is_width f.width)))
-    , are_plain fields
-    )
+are_plain (f ∷ fields) = (
+  (refl, (bits f.width, subst (λ (body : Body-F Body Case Field). HasWidth body (bits f.width)) (sym (outs-Simple (PlainRef (Uint (bits f.width))))) (refl, is_width f.width))),
+  are_plain fields,
+)
 
 tree_reads : (p : PlainType) (def : ℕ) (found : Def) → slice_get (tree_of p).defs def ≡ Some found → CanRead (tree_of p) def []
 tree_reads p zero found h = (_, refl, refl, refl, refl, are_plain p.fields)
@@ -36,7 +36,7 @@ tree_reads p (suc n) found h = absurd (omega (arith, slice_get_within (tree_of p
 pub form_reads : (text : List ℕ) (d : Description) (def : ℕ) (name : List ℕ) → FirstForm text d → Names d def name → CanRead d def []
 form_reads text d def name form named =
     subst (λ (t : Description). CanRead t def []) (sym form.4)
-      (tree_reads form.0 def named.0 (ap (λ (t : Description). slice_get t.defs def) (sym form.4) ∙ named.1))
+    (tree_reads form.0 def named.0 (ap (λ (t : Description). slice_get t.defs def) (sym form.4) ∙ named.1))
 
 pub form_short : (text : List ℕ) (d : Description) → FirstForm text d → length d.defs ≡ 1
 form_short text d form = ap (λ (t : Description). length t.defs) form.4

@@ -6,6 +6,7 @@ pub mod FrontLemmas
 pub mod Fronts
 pub mod ListingLemmas
 pub mod RunLemmas
+pub mod StatusLemmas
 pub mod StreamLemmas
 pub mod TokenLaws
 pub mod ToolLemmas

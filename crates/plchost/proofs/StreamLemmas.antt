@@ -1,6 +1,5 @@
 -- The values of a type in bytes, one after another.
-use Rattle.std.proofs.Common.{◌≡◌, ◌≢◌, ℕ, ◌+◌, ◌*◌, ◌-◌, ◌/◌, ◌%◌, ◌<◌, ◌≤◌, List, [], ◌∷◌, ◌++◌, length, drop, Result, Ok, Err, refl, inl, inr, sym, ap, ◌∙◌, subst, append_assoc, arith}
-use Rattle.std.specs.List.{flat_map}
+use Rattle.std.proofs.Common.{◌≡◌, ◌≢◌, ℕ, ◌+◌, ◌*◌, ◌-◌, ◌/◌, ◌%◌, ◌<◌, ◌≤◌, List, [], ◌∷◌, ◌++◌, length, drop, Ok, Err, refl, inl, inr, sym, ap, ◌∙◌, subst, append_assoc, arith}
 use Rattle.std.proofs.Math.ListN.{drop_of_length-le}
 use Rattle.std.proofs.lemmas.Grind.{flat_map-append}
 use Rattle.std.proofs.lemmas.List.{append-nil, length-drop, drop-drop}
@@ -16,7 +15,6 @@ use Rattle.mspec_meaning.specs.Stream.{Stream, StreamFrom, Ending, End, TooFew, 
 use Rattle.mspec_meaning.proofs.TotalLaws.{some_stream}
 use Rattle.plchost.specs.Listing.{listing, fields_at}
 use Rattle.plchost.specs.Tool.{listings}
-use Rattle.mspec_meaning.specs.Reads.{Fault}
 use Rattle.mspec_meaning.specs.Faults.{OfFault}
 use Rattle.node_tree.specs.declared.faults.ReadFault.{ReadFault}
 use Rattle.node_tree.specs.declared.faults.ReadFault.TheVariants.{Short as ShortFault, Bad as BadFault, NoMemory as ReadNoMemory}
@@ -43,7 +41,7 @@ ends_whole d def bytes at readings h goes =
 pub ends_short : (d : Description) (def : ℕ) (bytes : List ℕ) (at left : ℕ) (readings : List Reading) → at < length bytes → left ≡ 8 * (length bytes - at) → Reads d def [] (bits_of (drop at bytes)) (Err Short) → GoesOn d def bytes at readings → Stream d def [] bytes readings (TooFew left)
 ends_short d def bytes at left readings h count read goes =
     ends_here d def bytes at readings (TooFew left) goes
-      (some_bits bytes at h, read, omega (arith, count, length_bits_of (drop at bytes), length-drop at bytes))
+    (some_bits bytes at h, read, omega (arith, count, length_bits_of (drop at bytes), length-drop at bytes))
 
 pub ends_bad : (d : Description) (def : ℕ) (bytes : List ℕ) (at within : ℕ) (why : ReadWhy) (readings : List Reading) → at < length bytes → Reads d def [] (bits_of (drop at bytes)) (Err (Bad within why)) → GoesOn d def bytes at readings → Stream d def [] bytes readings (Refused (8 * at + within) (Value why))
 ends_bad d def bytes at within why readings h read goes =
@@ -66,7 +64,7 @@ one_more_reading d def bytes at reading readings h read some whole goes more end
     let next : 8 * (at + size) ≡ 8 * at + reading.bits = omega (arith, bits) in
     let from : StreamFrom d def [] (8 * at + reading.bits) (drop reading.bits (bits_of (drop at bytes))) more ending = rw behind (subst (λ (n : ℕ). StreamFrom d def [] n (bits_of (drop (at + size) bytes)) more ending) next rest) in
     subst (λ (all : List Reading). Stream d def [] bytes all ending) (sym (append_assoc readings (reading ∷ []) more))
-      (goes (reading ∷ more) ending (some_bits bytes at h, read, some, whole, from))
+    (goes (reading ∷ more) ending (some_bits bytes at h, read, some, whole, from))
 
 -- there is a stream from here on
 pub some_rest : (d : Description) (def : ℕ) (bytes : List ℕ) (at : ℕ) (readings : List Reading) → CanRead d def [] → GoesOn d def bytes at readings → (more : List Reading) × (ending : Ending) × Stream d def [] bytes (readings ++ more) ending

@@ -1,9 +1,8 @@
 -- What a run says, and the fronts of it that a run that was cut off has said.
-use Rattle.std.proofs.Common.{◌≡◌, ℕ, ◌≤◌, ◌⊎◌, List, [], ◌∷◌, ◌++◌, length, take, min, Option, Some, None, Result, Ok, Err, refl, inl, inr, sym, ap, ◌∙◌, subst, append_assoc, arith}
+use Rattle.std.proofs.Common.{◌≡◌, ℕ, List, [], ◌++◌, length, take, min, Option, Some, None, Result, Ok, Err, refl, inl, inr, sym, ap, ◌∙◌, subst, append_assoc, arith}
 use Rattle.std.specs.Result.{IfOk}
-use Rattle.std.specs.List.{flat_map}
 use Rattle.std.proofs.lemmas.Grind.{flat_map-append}
-use Rattle.std.proofs.lemmas.List.{take_all}
+use Rattle.std.proofs.lemmas.List.{take_all, append-nil}
 use Rattle.node_tree.specs.declared.readings.Reading.{Reading}
 use Rattle.node_tree.proofs.BitsLemmas.{within_or_past}
 use Rattle.mspec_tree.specs.declared.defs.Description.{Description}
@@ -16,7 +15,7 @@ use Rattle.plchost.specs.FirstForm.{FirstForm}
 use Rattle.plchost.specs.Listing.{listing, fields_at}
 use Rattle.plchost.specs.Preparing.{ComesToRefusal, refusal_said}
 use Rattle.plchost.specs.Runs.{InputTaken}
-use Rattle.plchost.specs.Tool.{AreDecode, Names, ComesTo, WordsRefused, FileFault, NotBuilt, TypeRefused, Values, Tool, IsFront, said, listings, last_said}
+use Rattle.plchost.specs.Tool.{AreDecode, Names, ComesTo, WordsRefused, FileFault, NotBuilt, TypeRefused, Values, Said, Tool, IsFront, said, listings, last_said}
 
 -- an input that was left alone
 pub untouched : (tape : Option Tape) (ends faults : ℕ) → InputTaken tape tape ends ends faults faults [] None
@@ -37,7 +36,7 @@ refusal_tool words file refusals.NoMemory h comes = absurd (h refl)
 -- the bytes that count
 pub counted : (n : ℕ) (bytes : List ℕ) → take (min (length bytes) n) bytes ≡ take n bytes
 counted n bytes = elim (within_or_past (length bytes) n) [
-  inl h ↦ ap (λ m. take m bytes) (omega arith) ∙ take_all (length bytes) bytes (omega arith) ∙ sym (take_all n bytes h)
+  | inl h ↦ ap (λ m. take m bytes) (omega arith) ∙ take_all (length bytes) bytes (omega arith) ∙ sym (take_all n bytes h)
   | inr h ↦ ap (λ m. take m bytes) (omega arith)
 ]
 
@@ -50,12 +49,12 @@ comes_to_values words name kind text taken bytes d def readings ending decode fo
 pub front_of_values : (words : List (List ℕ)) (file : Option (List ℕ)) (taken : List ℕ) (how : Option How) (d : Description) (def : ℕ) (front back : List Reading) (ending : Ending) → ComesTo words file taken (Values d def (front ++ back) ending) → IsFront words file taken how (listings d def front)
 front_of_values words file taken how d def front back ending comes =
     let all = flat_map-append (λ (r : Reading). listing (fields_at d def) r.node) front back in
-    inr
-      ( Values d def (front ++ back) ending
-      , listings d def back ++ (last_said how ending).text
-      , comes
-      , sym (append_assoc (listings d def front) (listings d def back) (last_said how ending).text) ∙ ap (λ (xs : List ℕ). xs ++ (last_said how ending).text) (sym all)
-      )
+    inr (
+      Values d def (front ++ back) ending,
+      listings d def back ++ (last_said how ending).text,
+      comes,
+      sym (append_assoc (listings d def front) (listings d def back) (last_said how ending).text) ∙ ap (λ (xs : List ℕ). xs ++ (last_said how ending).text) (sym all),
+    )
 
 -- the listings of all values are a front
 pub front_before_last : (words : List (List ℕ)) (file : Option (List ℕ)) (taken : List ℕ) (how : Option How) (d : Description) (def : ℕ) (readings : List Reading) (ending : Ending) → ComesTo words file taken (Values d def readings ending) → IsFront words file taken how (listings d def readings)
@@ -65,3 +64,8 @@ front_before_last words file taken how d def readings ending comes =
 -- the values, read to their end
 pub values_tool : (words : List (List ℕ)) (file : Option (List ℕ)) (taken : List ℕ) (how : How) (d : Description) (def : ℕ) (readings : List Reading) (ending : Ending) → ComesTo words file taken (Values d def readings ending) → Tool words file taken (Some how) (said (Some how) (Values d def readings ending))
 values_tool words file taken how d def readings ending comes = (Values d def readings ending, comes, tt, refl)
+
+-- the text of a run is a front of itself
+pub front_of_tool : (words : List (List ℕ)) (file : Option (List ℕ)) (taken : List ℕ) (how : Option How) (told : Said) → Tool words file taken how told → IsFront words file taken how told.text
+front_of_tool words file taken how told tool =
+    inr (tool.0, [], tool.1, append-nil told.text ∙ ap (λ (s : Said). s.text) tool.3)

@@ -1,5 +1,5 @@
 -- What a run of the program did with its streams, as they tell it and by their counts.
-use Rattle.std.specs.Prelude.{ℕ, ◌≡◌, ◌<◌, ◌≤◌, ◌⊎◌, List, [], ◌∷◌, ◌++◌, length, codes, Option, Some, None, IfSome}
+use Rattle.std.specs.Prelude.{ℕ, ◌≡◌, ◌<◌, ◌≤◌, ◌⊎◌, List, ◌++◌, length, Option, Some, None, IfSome}
 use Rattle.link_io.specs.Counts.{Rose}
 use Rattle.link_io.specs.Streams.{Tape, after_giving, after_taking}
 use Rattle.plchost.specs.declared.inputs.How.{How}
@@ -37,3 +37,7 @@ pub record ShelfSeen (words : List (List ℕ)) (faults faults' : List ℕ → �
 pub record InputTaken (tape tape' : Option Tape) (ends ends' faults faults' : ℕ) (taken : List ℕ) (how : Option How) : Type 0 where
   pub given : tape' ≡ after_giving taken tape
   pub left : LeftSo how ends ends' faults faults' taken
+
+-- the statuses of a run that stops before it reads its input
+abbrev pub StopsEarly : ℕ → Type 0
+StopsEarly status = (status ≡ 1) ⊎ ((status ≡ 2) ⊎ ((status ≡ 3) ⊎ (status ≡ 12)))

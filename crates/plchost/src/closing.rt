@@ -65,12 +65,7 @@ fn truncated_line(alloc: Global, left: u64) -> Result<Vec<u8>, AllocError>
 
 /// Adds the last line of values that end so, in an input that was left so, and answers the status. An `Err`
 /// changes nothing.
-pub fn close(
-    alloc: Global,
-    gathered: &mut Vec<u8>,
-    how: How,
-    rest: Rest,
-) -> Result<u8, AllocError>
+pub fn close(alloc: Global, gathered: &mut Vec<u8>, how: How, rest: Rest) -> Result<u8, AllocError>
     ensures closed { IfOk result (λ status. let said = last_said (Some how) (ending_of rest) in
         (gathered.new.items ≡ gathered.old.items ++ said.text) × (status ≡ said.status)) }
     ensures unchanged { IfErr result (λ _. gathered.new.items ≡ gathered.old.items) }

@@ -1,4 +1,5 @@
-//! The host of the protocols: its commands, and the first form of a description.
+//! The program `plchost`: a compiler of mspec, the language of Apache PLC4X's protocol descriptions. So far it
+//! decodes captures by descriptions in the first form.
 #![tactic(auto)]
 
 mod closing;
@@ -14,8 +15,35 @@ mod tool;
 mod values;
 mod words;
 
-use std::io;
+use link_io::{FileShelf, StdSink, StdSource, StringList};
+use std::io::ErrorKind;
+use std::process::ExitCode;
+use std::rt::Env;
+use std::{env, io};
+use tool::{NO_MEMORY, WORDS_REFUSED, finish, tool_main};
 
-fn main(_rt: HostRuntime) -> io::Result<()> {
-    Ok(())
+/// The words behind the program's name. A word that isn't text is an error.
+fn read_words(rt: &(impl Env + AllocGlobal)) -> io::Result<StringList> {
+    let mut words = StringList::new(rt.alloc());
+    for word in env::args(rt)?.skip(1) {
+        words.push(word)?;
+    }
+    Ok(words)
+}
+
+fn main(rt: HostRuntime) -> ExitCode {
+    let alloc = rt.alloc();
+    let mut out = StdSink::new(io::writer(&rt));
+    let status = match read_words(&rt) {
+        Ok(words) => {
+            let mut files = FileShelf::new(rt, alloc);
+            let mut input = StdSource::new(rt.reader());
+            tool_main(alloc, &words, &mut files, &mut input, &mut out)
+        }
+        Err(error) if matches!(error.kind(), ErrorKind::OutOfMemory) => {
+            finish(&mut out, b"no memory\n", b"", NO_MEMORY)
+        }
+        Err(_) => finish(&mut out, b"words refused\n", b"", WORDS_REFUSED),
+    };
+    ExitCode::from(status)
 }

@@ -1,4 +1,4 @@
-use Rattle.std.proofs.Common.{rules, ◌≡◌, ℕ, ◌+◌, ◌≤◌, List, ◌++◌, length, take, drop, Option, Ok, sym, ap, ◌∙◌, subst, vec_len, arith}
+use Rattle.std.proofs.Common.{◌≡◌, ℕ, ◌+◌, ◌≤◌, List, length, take, drop, Option, Ok, ap, ◌∙◌, subst, vec_len, arith}
 use Rattle.std.specs.Option.{IfSome}
 use Rattle.std.proofs.lemmas.List.{length-take, length-take-le}
 use Rattle.plchost.proofs.FrontLemmas.{front_more, front_all}

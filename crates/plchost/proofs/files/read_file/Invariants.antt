@@ -1,4 +1,4 @@
-use Rattle.std.proofs.Common.{◌≡◌, ◌≤◌, ◌-◌, ℕ, List, length, take, vec_len}
+use Rattle.std.proofs.Common.{◌≡◌, ◌≤◌, ◌-◌, ℕ, List, take, vec_len}
 use Rattle.std.specs.Option.{IfSome}
 use Rattle.plchost.proofs.files.read_file.Given as goal
 

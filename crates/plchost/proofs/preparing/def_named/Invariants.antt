@@ -1,4 +1,4 @@
-use Rattle.std.proofs.Common.{◌≡◌, ℕ, ◌<◌}
+use Rattle.std.proofs.Common.{ℕ, ◌<◌}
 use Rattle.plchost.specs.Tool.{Names}
 use Rattle.plchost.proofs.preparing.def_named.Given as goal
 

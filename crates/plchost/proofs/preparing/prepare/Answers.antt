@@ -1,4 +1,4 @@
-use Rattle.std.proofs.Common.{◌≡◌, ◌⊎◌, ℕ, List, take, Some, Ok, Err, inl, inr, refl, ap, sym, ◌∙◌, subst}
+use Rattle.std.proofs.Common.{◌≡◌, ℕ, List, take, Some, Err, inl, inr, refl, ap, sym, subst}
 use Rattle.std.specs.Option.{IfSome}
 use Rattle.std.proofs.lemmas.Result.{err_from_is_err_and}
 use Rattle.plchost.proofs.FileLemmas.{text_seen, failed_seen, unformed_seen, seen_by}
@@ -9,10 +9,10 @@ returns-in_err-text-clause-refused g c =
     let p = err_from_is_err_and c.from_residual.result c.from_residual.ensures.1 in
     let kept = c.in_err-text.ensures.no_fault in
     rw (p.1, p.2)
-      (failed_seen c.args.words.now c.in-Some.found.file.now c.in-Some.found.kind.now (g.F.Shelf.faults c.args.files.now) (g.F.Shelf.faults c.read_file.new.files) g.F.Shelf.counts_with (g.F.Shelf.file c.args.files.now) c.in_err-text.field-0.0 c.in-Some.ensures
-        (λ e. c.in_err-text.ensures.fault (ap (λ x. Err x) e))
-        (elim kept [ inl failed ↦ inl (cc) | inr same ↦ inr same ])
-        c.in_err-text.ensures.others)
+    (failed_seen c.args.words.now c.in-Some.found.file.now c.in-Some.found.kind.now (g.F.Shelf.faults c.args.files.now) (g.F.Shelf.faults c.read_file.new.files) g.F.Shelf.counts_with (g.F.Shelf.file c.args.files.now) c.in_err-text.field-0.0 c.in-Some.ensures
+    (λ e. c.in_err-text.ensures.fault (ap (λ x. Err x) e))
+    (elim kept [ inl failed ↦ inl (cc) | inr same ↦ inr same ])
+    c.in_err-text.ensures.others)
 
 pub returns-in_err-description-clause-refused : goal.returns-in_err-description-clause-refused
 returns-in_err-description-clause-refused g c =
@@ -22,8 +22,8 @@ returns-in_err-description-clause-refused g c =
     let same : (other : List ℕ) → after other ≡ faults other = elim c.in_ok-text.ensures.no_fault [ inl failed ↦ absurd cc | inr same ↦ same ] in
     let front = subst (λ (text : List ℕ). IfSome (g.F.Shelf.file c.args.files.now c.in-Some.found.file.now) (λ bytes. text ≡ take 1048577 bytes)) (sym c.deref.ensures.value) c.in_ok-text.ensures.text in
     rw (p.1, p.2)
-      (unformed_seen c.args.words.now c.in-Some.found.file.now c.in-Some.found.kind.now c.deref.result.now faults after g.F.Shelf.counts_with (g.F.Shelf.file c.args.files.now) c.in_err-description.field-0.0 c.in-Some.ensures same front
-        (λ e. c.in_err-description.ensures.refused (ap (λ x. Err x) e)))
+    (unformed_seen c.args.words.now c.in-Some.found.file.now c.in-Some.found.kind.now c.deref.result.now faults after g.F.Shelf.counts_with (g.F.Shelf.file c.args.files.now) c.in_err-description.field-0.0 c.in-Some.ensures same front
+    (λ e. c.in_err-description.ensures.refused (ap (λ x. Err x) e)))
 
 pub returns-in-Some-def_named-clause-ready : goal.returns-in-Some-def_named-clause-ready
 returns-in-Some-def_named-clause-ready g c =

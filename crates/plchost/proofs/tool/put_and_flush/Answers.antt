@@ -1,4 +1,4 @@
-use Rattle.std.proofs.Common.{◌≡◌, ℕ, List, ◌++◌, Option, ap, sym, ◌∙◌, subst}
+use Rattle.std.proofs.Common.{◌≡◌, ℕ, ◌++◌, ap, sym, ◌∙◌, subst}
 use Rattle.std.proofs.lemmas.Result.{err_from_is_err_and, on_err_weaker}
 use Rattle.link_io.specs.Counts.{Rose}
 use Rattle.plchost.proofs.RunLemmas.{front_of_first, front_of_second, front_of_all}
@@ -16,10 +16,10 @@ returns-in_err-put_all-2-clause-cut g c =
     let h0 = g.K.Sink.held c.args.out.now in
     let h1 = g.K.Sink.held c.put_all.new.out in
     let h2 = g.K.Sink.held c.put_all-2.new.out in
-    rw p.1
-      ( front_of_second h0 h1 h2 c.args.gathered.now c.args.last.now c.in_ok-put_all.ensures.put c.in_err-put_all-2.ensures.front
-      , subst (λ (n : ℕ). Rose n (g.K.Sink.faults c.put_all-2.new.out)) c.in_ok-put_all.ensures.no_fault c.in_err-put_all-2.ensures.fault
-      )
+    rw p.1 (
+      front_of_second h0 h1 h2 c.args.gathered.now c.args.last.now c.in_ok-put_all.ensures.put c.in_err-put_all-2.ensures.front,
+      subst (λ (n : ℕ). Rose n (g.K.Sink.faults c.put_all-2.new.out)) c.in_ok-put_all.ensures.no_fault c.in_err-put_all-2.ensures.fault,
+    )
 
 pub returns-clause-cut : goal.returns-clause-cut
 returns-clause-cut g c =
@@ -27,6 +27,6 @@ returns-clause-cut g c =
     let h1 = g.K.Sink.held c.put_all.new.out in
     let h3 = g.K.Sink.held c.flush.new.self in
     let put : h3 ≡ after_taking (c.args.gathered.now ++ c.args.last.now) h0 =
-      c.flush.ensures.held ∙ c.in_ok-put_all-2.ensures.put ∙ ap (after_taking c.args.last.now) c.in_ok-put_all.ensures.put ∙ sym (after_taking-append c.args.gathered.now c.args.last.now h0) in
+    c.flush.ensures.held ∙ c.in_ok-put_all-2.ensures.put ∙ ap (after_taking c.args.last.now) c.in_ok-put_all.ensures.put ∙ sym (after_taking-append c.args.gathered.now c.args.last.now h0) in
     let same : g.K.Sink.faults c.put_all-2.new.out ≡ g.K.Sink.faults c.args.out.now = c.in_ok-put_all-2.ensures.no_fault ∙ c.in_ok-put_all.ensures.no_fault in
     on_err_weaker c.flush.result (λ rose. (front_of_all h0 h3 (c.args.gathered.now ++ c.args.last.now) put, subst (λ (n : ℕ). Rose n (g.K.Sink.faults c.flush.new.self)) same rose)) c.flush.ensures.failed

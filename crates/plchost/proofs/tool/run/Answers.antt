@@ -1,15 +1,13 @@
-use Rattle.std.proofs.Common.{◌≡◌, ℕ, List, [], ◌++◌, length, take, min, Option, Some, None, Ok, Err, vec_len, inl, inr, refl, ap, sym, ◌∙◌, subst, arith}
+use Rattle.std.proofs.Common.{◌≡◌, ℕ, List, [], ◌++◌, length, take, min, Some, None, vec_len, inl, refl, ap, sym, ◌∙◌}
 use Rattle.std.proofs.lemmas.Result.{err_from_is_err_and, IfErr-at_err}
-use Rattle.node_tree.specs.declared.readings.Reading.{Reading}
-use Rattle.mspec_meaning.specs.Stream.{Stream}
-use Rattle.plchost.specs.declared.faults.Cut.{Cut}
-use Rattle.plchost.specs.declared.faults.Cut.TheVariants.{NoMemory, WriteFault}
+use Rattle.plchost.specs.declared.faults.Cut.TheVariants.{NoMemory}
 use Rattle.plchost.specs.Endings.{ending_of}
 use Rattle.plchost.specs.Preparing.{refusal_said}
 use Rattle.plchost.specs.Tool.{listings, last_said, said, Values}
 use Rattle.plchost.proofs.FormReads.{form_reads}
 use Rattle.plchost.proofs.RunLemmas.{Adds-more, Adds-same, Adds-nothing, Adds-gathered}
 use Rattle.plchost.proofs.ToolLemmas.{untouched, both_ok, refusal_tool, counted, comes_to_values, front_of_values, front_before_last, values_tool}
+use Rattle.plchost.proofs.StatusLemmas.{not_early}
 use Rattle.plchost.proofs.tool.run.Goals as goal
 
 pub returns-in-Err-clause-said : goal.returns-in-Err-clause-said
@@ -21,7 +19,7 @@ returns-in-Err-clause-said g c =
     let t0 = c.args.gathered.now.items in
     let t1 = c.say.new.gathered.items in
     both_ok c.say.result _ _ _ c.say.ensures.said c.say.ensures.memory
-      (λ status added memory. (refused.0, [], None, refusal_said c.in-Err.refusal, refused.1, alone, refusal_tool c.args.words.now refused.0 c.in-Err.refusal memory refused.2, Adds-gathered held held t0 t1 (refusal_said c.in-Err.refusal).text refl added.0, added.1))
+    (λ status added memory. (refused.0, [], None, refusal_said c.in-Err.refusal, refused.1, alone, refusal_tool c.args.words.now refused.0 c.in-Err.refusal memory refused.2, Adds-gathered held held t0 t1 (refusal_said c.in-Err.refusal).text refl added.0, added.1))
 
 pub returns-in-Err-clause-no_memory : goal.returns-in-Err-clause-no_memory
 returns-in-Err-clause-no_memory g c =
@@ -128,3 +126,7 @@ returns-clause-said g c =
     let last = (last_said (Some how) ending).text in
     let added = Adds-more h0 h1 h1 c.args.gathered.now.items t1 t2 (listings d def values.0) last values.2 (Adds-gathered h1 h1 t1 t2 last refl closed.0) in
     (Some ready.2, taken, Some how, said (Some how) (Values d def values.0 ending), ready.4, record { given = cap.0; left = cap.1 }, values_tool c.args.words.now (Some ready.2) taken how d def values.0 ending comes, added, closed.1)
+
+pub returns-clause-untouched : goal.returns-clause-untouched
+returns-clause-untouched g c =
+    λ (early : _). absurd (not_early (Some c.in_ok-capture.capture.how) (ending_of c.in_ok-rest.rest) c.in_ok-status.status early c.in_ok-status.ensures.closed.1)

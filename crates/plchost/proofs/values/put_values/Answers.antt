@@ -1,5 +1,5 @@
-use Rattle.std.proofs.Common.{◌≡◌, ◌≢◌, ℕ, ◌+◌, ◌*◌, ◌-◌, ◌/◌, ◌%◌, ◌<◌, List, [], ◌∷◌, ◌++◌, length, take, drop, Result, Ok, Err, inl, inr, refl, sym, ap, ◌∙◌, subst, arith}
-use Rattle.std.proofs.lemmas.List.{take_rest, append-nil}
+use Rattle.std.proofs.Common.{◌≢◌, ℕ, ◌+◌, ◌*◌, ◌-◌, ◌/◌, ◌%◌, List, [], ◌∷◌, ◌++◌, length, Result, Ok, Err, inl, inr, sym, ◌∙◌, subst, arith}
+use Rattle.std.proofs.lemmas.List.{take_rest}
 use Rattle.std.proofs.lemmas.Result.{err_from_is_err_and, IfOk-weaker}
 use Rattle.node_tree.specs.Bits.{bits_of}
 use Rattle.node_tree.specs.declared.readings.Reading.{Reading}
@@ -44,12 +44,12 @@ returns-in_err-put_value-clause-no_memory g c =
     let p = err_from_is_err_and c.from_residual.result c.from_residual.ensures.1 in
     let inv = c.loop-at.invariant in
     let rest = some_rest c.args.d.now c.args.def c.args.bytes.now c.loop-at.at inv.0 c.requires.can inv.3 in
-    λ (e : _). let same = c.in_err-put_value.ensures.no_memory (cc) in
-    ( inv.0
-    , rest.0
-    , rest.1
-    , rest.2
-    , Adds-same (g.K.Sink.held c.args.out.now) (g.K.Sink.held c.loop-at.out) (g.K.Sink.held c.put_value.new.out) c.args.gathered.now.items c.loop-at.gathered.items c.put_value.new.gathered.items (listings c.args.d.now c.args.def inv.0) inv.1 same.0 same.1
+    λ (e : _). let same = c.in_err-put_value.ensures.no_memory (cc) in (
+      inv.0,
+      rest.0,
+      rest.1,
+      rest.2,
+      Adds-same (g.K.Sink.held c.args.out.now) (g.K.Sink.held c.loop-at.out) (g.K.Sink.held c.put_value.new.out) c.args.gathered.now.items c.loop-at.gathered.items c.put_value.new.gathered.items (listings c.args.d.now c.args.def inv.0) inv.1 same.0 same.1,
     )
 
 pub returns-in_err-put_value-clause-cut : goal.returns-in_err-put_value-clause-cut
@@ -70,12 +70,12 @@ returns-in_err-put_value-clause-cut g c =
     let t1 = c.loop-at.gathered.items in
     λ (e : _).
     let put = subst (λ (fields : List Field). PutsFront (g.K.Sink.held c.loop-at.out) h2 (t1 ++ listing fields reading.node)) c.fields_of-fields.ensures (c.in_err-put_value.ensures.cut (cc)) in
-    let all = PutsFront-after h0 (g.K.Sink.held c.loop-at.out) h2 t0 t1 (listings d def inv.0) (listing (fields_at d def) reading.node) inv.1 put in
-    ( inv.0 ++ reading ∷ []
-    , rest.0
-    , rest.1
-    , rest.2
-    , subst (λ (xs : List ℕ). PutsFront h0 h2 (t0 ++ xs)) (sym (listings_more d def inv.0 reading)) all
+    let all = PutsFront-after h0 (g.K.Sink.held c.loop-at.out) h2 t0 t1 (listings d def inv.0) (listing (fields_at d def) reading.node) inv.1 put in (
+      inv.0 ++ reading ∷ [],
+      rest.0,
+      rest.1,
+      rest.2,
+      subst (λ (xs : List ℕ). PutsFront h0 h2 (t0 ++ xs)) (sym (listings_more d def inv.0 reading)) all,
     )
 
 pub loop-at-preserved : goal.loop-at-preserved
@@ -93,11 +93,11 @@ loop-at-preserved g c =
     let t1 = c.loop-at.gathered.items in
     let t2 = c.put_value.new.gathered.items in
     let one = subst (λ (fields : List Field). Adds h1 h2 t1 t2 (listing fields reading.node)) c.fields_of-fields.ensures c.in_ok-put_value.ensures.added in
-    let all = Adds-more h0 h1 h2 t0 t1 t2 (listings d c.args.def inv.0) (listing (fields_at d c.args.def) reading.node) inv.1 one in
-    ( inv.0 ++ reading ∷ []
-    , subst (λ (xs : List ℕ). Adds h0 h2 t0 t2 xs) (sym (listings_more d c.args.def inv.0 reading)) all
-    , elim c.in_ok-put_value.ensures.no_fault [ inl bad ↦ absurd cc | inr same ↦ same ∙ inv.2 ]
-    , one_more_reading d c.args.def bytes at reading inv.0 c.loop-at-test.true read (omega arith) (omega arith) inv.3
+    let all = Adds-more h0 h1 h2 t0 t1 t2 (listings d c.args.def inv.0) (listing (fields_at d c.args.def) reading.node) inv.1 one in (
+      inv.0 ++ reading ∷ [],
+      subst (λ (xs : List ℕ). Adds h0 h2 t0 t2 xs) (sym (listings_more d c.args.def inv.0 reading)) all,
+      elim c.in_ok-put_value.ensures.no_fault [ inl bad ↦ absurd cc | inr same ↦ same ∙ inv.2 ],
+      one_more_reading d c.args.def bytes at reading inv.0 c.loop-at-test.true read (omega arith) (omega arith) inv.3,
     )
 
 pub returns-clause-values : goal.returns-clause-values
@@ -120,7 +120,7 @@ returns-in-Err-clause-values g c =
     let t1 = c.loop-at.gathered.items in
     let All : Rest → Type 0 = λ rest. (readings : List Reading) × Stream d def [] bytes readings (ending_of rest) × Adds h0 h1 t0 t1 (listings d def readings) in
     subst (λ (r : Result Rest Cut). IfOk r All) (sym c.fault_rest.ensures)
-      (IfOk-weaker (fault_rest e (8 * at) (8 * (length bytes - at))) (λ rest. Stream d def [] bytes inv.0 (ending_of rest)) All (λ rest h. (inv.0, h, inv.1)) (ends_faulty d def bytes at inv.0 e c.loop-at-test.true fault inv.3))
+    (IfOk-weaker (fault_rest e (8 * at) (8 * (length bytes - at))) (λ rest. Stream d def [] bytes inv.0 (ending_of rest)) All (λ rest h. (inv.0, h, inv.1)) (ends_faulty d def bytes at inv.0 e c.loop-at-test.true fault inv.3))
 
 pub returns-in-Err-clause-no_memory : goal.returns-in-Err-clause-no_memory
 returns-in-Err-clause-no_memory g c =

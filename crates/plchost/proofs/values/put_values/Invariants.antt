@@ -1,4 +1,4 @@
-use Rattle.std.proofs.Common.{◌≡◌, ◌+◌, ◌*◌, ◌-◌, ℕ, List, [], ◌++◌, length, drop}
+use Rattle.std.proofs.Common.{◌≡◌, ◌*◌, ◌-◌, List, [], ◌++◌, length, drop}
 use Rattle.node_tree.specs.Bits.{bits_of}
 use Rattle.node_tree.specs.declared.readings.Reading.{Reading}
 use Rattle.mspec_meaning.specs.Stream.{Stream, StreamFrom, Ending}

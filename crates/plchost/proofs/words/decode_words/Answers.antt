@@ -1,4 +1,4 @@
-use Rattle.std.proofs.Common.{rules, ◌≡◌, List, [], ◌∷◌, codes, ap, ◌∙◌, sym, arith}
+use Rattle.std.proofs.Common.{rules, ◌≡◌, [], ◌∷◌, codes, ap, ◌∙◌, sym, arith}
 use Rattle.plchost.proofs.WordLemmas.{of_three}
 use Rattle.plchost.proofs.words.decode_words.Goals as goal
 
