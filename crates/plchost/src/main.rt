@@ -10,6 +10,8 @@ mod listings;
 mod plain_types;
 mod preparing;
 mod printing;
+#[cfg(test)]
+mod tests;
 mod tokens;
 mod tool;
 mod values;

@@ -1,0 +1,239 @@
+ghost use Rattle.std.specs.Prelude.{◌<◌};
+
+use crate::tool::tool_main;
+use link_io::{MemShelf, MemSink, MemSource, StringList};
+use std::alloc::{AllocError, Global};
+use std::test::Fail;
+
+/// The file `p`, where a test names no other.
+const P: &[u8] = b"[type P [simple uint 8 a] [simple uint 16 b]]";
+
+/// The numbers of the calls that fail, from 1.
+#[derive(Clone, Copy)]
+struct Failing<'a> {
+    reads: &'a [u64],
+    file_reads: &'a [u64],
+    writes: &'a [u64],
+}
+
+const NONE_FAILS: Failing<'static> = Failing {
+    reads: &[],
+    file_reads: &[],
+    writes: &[],
+};
+
+/// What a run put out, and its status.
+#[derive(Drop)]
+struct Ran {
+    text: Vec<u8>,
+    status: u8,
+}
+
+fn string_list(alloc: Global, words: &[&str]) -> Result<StringList, AllocError> {
+    let mut list = StringList::new(alloc);
+    for word in words {
+        list.push(String::from_str(alloc, word)?)?;
+    }
+    Ok(list)
+}
+
+/// Runs the program over a shelf with the one file `p`, in pieces of at most `piece` bytes.
+fn run(
+    alloc: Global,
+    words: &[&str],
+    text: &[u8],
+    input: &[u8],
+    failing: Failing<'_>,
+    piece: usize,
+) -> Result<Ran, AllocError>
+    requires { 0 < piece }
+{
+    let words = string_list(alloc, words)?;
+    let mut shelved = Vec::new(alloc);
+    shelved.push((String::from_str(alloc, "p")?, Vec::from_slice(alloc, text)?))?;
+    let file_reads = Vec::from_slice(alloc, failing.file_reads)?;
+    let mut files = MemShelf::new(shelved, file_reads).in_pieces(piece);
+    let reads = Vec::from_slice(alloc, failing.reads)?;
+    let mut source = MemSource::new(Vec::from_slice(alloc, input)?, reads).in_pieces(piece);
+    let writes = Vec::from_slice(alloc, failing.writes)?;
+    let mut out = MemSink::new(alloc, writes).in_pieces(piece);
+    let status = tool_main(alloc, &words, &mut files, &mut source, &mut out);
+    let text = Vec::from_slice(alloc, out.bytes())?;
+    Ok(Ran { text, status })
+}
+
+#[test]
+fn decodes_values_and_says_what_is_wrong(rt: HostRuntime) -> Result<(), Fail> {
+    let two: &[u8] = b"a = 1\nb = 2\n\na = 255\nb = 65535\n\n";
+    let cases: [(&[u8], &[u8], &[u8], u8); 9] = [
+        (P, b"\x01\x00\x02", b"a = 1\nb = 2\n\n", 0),
+        (P, b"", b"", 0),
+        (P, b"\x01\x00", b"truncated 16\n", 7),
+        (P, b"\x01\x00\x02\xff\xff\xff", two, 0),
+        (P, b"\x01\x00\x02\x01", b"a = 1\nb = 2\n\ntruncated 8\n", 7),
+        (
+            b"[type P [simple uint 64 n]]",
+            b"\xff\xff\xff\xff\xff\xff\xff\xff",
+            b"n = 18446744073709551615\n\n",
+            0,
+        ),
+        (
+            b"[type P [simple uint 32 n]]",
+            b"\x00\x00\x00\x00",
+            b"n = 0\n\n",
+            0,
+        ),
+        (
+            b"[type Q [simple uint 8 a]]",
+            b"\x01",
+            b"type refused\n",
+            12,
+        ),
+        (
+            b"[type P [simple uint 12 a]]",
+            b"\x01",
+            b"description refused 1:1 NotBuilt\n",
+            1,
+        ),
+    ];
+    for (text, input, want, status) in cases {
+        for piece in 1usize..5 {
+            let ran = run(
+                rt.alloc(),
+                &["decode", "p", "P"],
+                text,
+                input,
+                NONE_FAILS,
+                piece,
+            )?;
+            assert_eq!(rt; ran.text.as_slice(), want);
+            assert_eq!(rt; ran.status, status);
+        }
+    }
+    Ok(())
+}
+
+#[test]
+fn refuses_words_and_files(rt: HostRuntime) -> Result<(), Fail> {
+    let refused: [&[&str]; 9] = [
+        &[],
+        &["frob"],
+        &["--help"],
+        &["decode"],
+        &["decode", "p"],
+        &["decode", "p", "P", "P"],
+        &["decode", "", "P"],
+        &["decode", "p", "-P"],
+        &["Decode", "p", "P"],
+    ];
+    for words in refused {
+        let ran = run(rt.alloc(), words, P, b"\x01", NONE_FAILS, 100)?;
+        assert_eq!(rt; ran.text.as_slice(), b"words refused\n".as_slice());
+        assert_eq!(rt; ran.status, 2);
+    }
+    let ran = run(
+        rt.alloc(),
+        &["decode", "q", "P"],
+        P,
+        b"\x01",
+        NONE_FAILS,
+        100,
+    )?;
+    assert_eq!(rt; ran.text.as_slice(), b"file fault\n".as_slice());
+    assert_eq!(rt; ran.status, 3);
+    Ok(())
+}
+
+/// Three values of two bytes each way, read and put out a byte at a time, where one call fails.
+fn run_failing(alloc: Global, failing: Failing<'_>) -> Result<Ran, AllocError> {
+    run(
+        alloc,
+        &["decode", "p", "P"],
+        b"[type P [simple uint 8 a]]",
+        b"\x01\x02\x03",
+        failing,
+        1,
+    )
+}
+
+#[test]
+fn a_fault_at_each_call_has_its_status(rt: HostRuntime) -> Result<(), Fail> {
+    let whole: &[u8] = b"a = 1\n\na = 2\n\na = 3\n\n";
+    // three bytes and the end, each a read
+    for at in 1u64..=4 {
+        let ran = run_failing(
+            rt.alloc(),
+            Failing {
+                reads: &[at],
+                ..NONE_FAILS
+            },
+        )?;
+        let values = 7 * (at as usize - 1);
+        assert!(rt; values <= 21);
+        let mut want = Vec::from_slice(rt.alloc(), &whole[..values])?;
+        want.extend_from_slice(b"read fault\n")?;
+        assert_eq!(rt; ran.text.as_slice(), want.as_slice(), "read {at}");
+        assert_eq!(rt; ran.status, 4);
+    }
+    // 26 bytes of text and the end
+    for at in 1u64..=27 {
+        let ran = run_failing(
+            rt.alloc(),
+            Failing {
+                file_reads: &[at],
+                ..NONE_FAILS
+            },
+        )?;
+        assert_eq!(rt;
+            ran.text.as_slice(),
+            b"file fault\n".as_slice(),
+            "file read {at}"
+        );
+        assert_eq!(rt; ran.status, 3);
+    }
+    // 21 bytes and the flush
+    for at in 1u64..=22 {
+        let ran = run_failing(
+            rt.alloc(),
+            Failing {
+                writes: &[at],
+                ..NONE_FAILS
+            },
+        )?;
+        let put = at as usize - 1;
+        assert!(rt; put <= 21);
+        assert_eq!(rt; ran.text.as_slice(), &whole[..put], "write {at}");
+        assert_eq!(rt; ran.status, 5);
+    }
+    let ran = run_failing(
+        rt.alloc(),
+        Failing {
+            writes: &[23],
+            ..NONE_FAILS
+        },
+    )?;
+    assert_eq!(rt; ran.text.as_slice(), whole);
+    assert_eq!(rt; ran.status, 0);
+    Ok(())
+}
+
+#[test]
+fn an_output_without_room_is_a_write_fault(rt: HostRuntime) -> Result<(), Fail> {
+    let words = string_list(rt.alloc(), &["decode", "p", "P"])?;
+    for room in 0usize..13 {
+        let mut shelved = Vec::new(rt.alloc());
+        shelved.push((
+            String::from_str(rt.alloc(), "p")?,
+            Vec::from_slice(rt.alloc(), P)?,
+        ))?;
+        let mut files = MemShelf::new(shelved, Vec::new(rt.alloc()));
+        let input = Vec::from_slice(rt.alloc(), b"\x01\x00\x02")?;
+        let mut source = MemSource::new(input, Vec::new(rt.alloc()));
+        let mut out = MemSink::with_room(rt.alloc(), room, Vec::new(rt.alloc()));
+        let status = tool_main(rt.alloc(), &words, &mut files, &mut source, &mut out);
+        assert_eq!(rt; status, 5, "room {room}");
+        let want: &[u8] = b"a = 1\nb = 2\n\n";
+        assert_eq!(rt; out.bytes(), &want[..room]);
+    }
+    Ok(())
+}
