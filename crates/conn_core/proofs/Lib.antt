@@ -1,0 +1,9 @@
+pub mod EndLemmas
+pub mod EventRoom
+pub mod EventTurns
+pub mod FirstLemmas
+pub mod FrontLemmas
+pub mod KeptLemmas
+pub mod RoomLemmas
+pub mod StepRoom
+pub mod TurnLemmas

@@ -1,0 +1,26 @@
+//! The request table of one connection: who holds a lease on it, which requests are under way, which
+//! frame ends which, and the journal of all that happened.
+#![tactic(auto)]
+
+mod answers;
+mod asking;
+mod calls;
+mod closing;
+mod ending;
+mod ends;
+mod entries;
+mod finding;
+mod kept;
+mod lists;
+mod rows;
+mod sending;
+mod settings;
+mod tables;
+
+pub use answers::{
+    Accepted, AskRefusal, CancelRefusal, FrameAnswer, FrameRefusal, LeaseAnswer, LeaseRefusal,
+    SendRefusal, Sending, SubmitRefusal, TakeRefusal, Ticked,
+};
+pub use entries::{Answer, Entry, EntryList, Event};
+pub use rows::{Lease, Phase, Row};
+pub use settings::Settings;
