@@ -2,8 +2,11 @@ pub mod EndLemmas
 pub mod EventRoom
 pub mod EventTurns
 pub mod FirstLemmas
+pub mod FrameLemmas
+pub mod FrameTurns
 pub mod FrontLemmas
 pub mod KeptLemmas
 pub mod RoomLemmas
 pub mod StepRoom
+pub mod SubmitTurns
 pub mod TurnLemmas

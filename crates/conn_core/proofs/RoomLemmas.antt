@@ -2,8 +2,9 @@
 use Rattle.std.proofs.Common.{◌≡◌, ℕ, ◌+◌, ◌*◌, ◌<◌, ◌≤◌, Bool, true, false, cond, List, [], ◌∷◌, ◌++◌, Option, Some, None, Result, Ok, Err, length, refl, sym, ap, ◌∙◌, arith, length-append}
 use Rattle.std.specs.Prelude.{map}
 use Rattle.wire_frames.specs.declared.ends.Reason.{Reason}
+use Rattle.wire_frames.specs.declared.asks.Ask.{Ask}
 use Rattle.conn_core.specs.Finds.{weight_of}
-use Rattle.conn_core.specs.Rooms.{entries_of, phase_entries, phase_references, references_kept}
+use Rattle.conn_core.specs.Rooms.{entries_of, phase_entries, phase_references, references_kept, unasked, zero_reference, zero_row}
 use Rattle.conn_core.specs.Tables.{is_queued, is_sent, lost_phase, lost_row, phase_queued, phase_sent, references_of}
 use Rattle.conn_core.specs.declared.rows.Phase.{Phase}
 use Rattle.conn_core.specs.declared.rows.Phase.TheVariants.{Queued, Sent, Ended}
@@ -50,3 +51,22 @@ given_up (Ended outcome) reference queued sent n h = omega arith
 pub references_given_up : (rows : List Row) → length (references_of is_queued rows) + length (references_of is_sent rows) ≡ weight_of references_kept rows
 references_given_up [] = refl
 references_given_up (row ∷ rows) = given_up row.phase row.reference _ _ _ (references_given_up rows)
+
+pub weight_join : {X : Type 0} (w : X → ℕ) (xs ys : List X) → weight_of w (xs ++ ys) ≡ weight_of w xs + weight_of w ys
+weight_join w [] ys = omega arith
+weight_join w (x ∷ xs) ys = let rest = weight_join w xs ys in omega arith
+
+-- references that are given up are those of rows
+pub zero_references : (p : Row → Bool) (rows : List Row) → weight_of zero_reference (references_of p rows) ≤ weight_of zero_row rows
+zero_references p [] = omega arith
+zero_references p (row ∷ rows) =
+    let rest = zero_references p rows in
+    elim (p row) as (λ b. weight_of zero_reference (cond b (row.reference ∷ references_of p rows) (references_of p rows)) ≤ zero_row row + weight_of zero_row rows) [ true ↦ omega arith | false ↦ omega arith ]
+
+pub lost_zeros : (reason : Reason) (rows : List Row) → weight_of zero_row (map (lost_row reason) rows) ≡ weight_of zero_row rows
+lost_zeros reason [] = refl
+lost_zeros reason (row ∷ rows) = let rest = lost_zeros reason rows in omega arith
+
+pub lost_asks : (p : Ask → Bool) (reason : Reason) (rows : List Row) → weight_of (unasked p) (map (lost_row reason) rows) ≡ weight_of (unasked p) rows
+lost_asks p reason [] = refl
+lost_asks p reason (row ∷ rows) = let rest = lost_asks p reason rows in omega arith

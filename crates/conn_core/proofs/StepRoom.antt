@@ -8,7 +8,7 @@ use Rattle.wire_frames.specs.declared.ends.Reason.{Reason}
 use Rattle.wire_frames.specs.declared.ends.Reason.TheVariants as reasons
 use Rattle.conn_core.specs.Finds.{change_first, remove_first, weight_of}
 use Rattle.conn_core.specs.Journals.{settled_if, turn_if, turn_of, settled, wears}
-use Rattle.conn_core.specs.Rooms.{Capacities, IsRoomy, IsUnderWay, closes_of, entries_of, needs_of, phase_entries, phase_references, references_kept}
+use Rattle.conn_core.specs.Rooms.{Capacities, IsRoomy, IsUnderWay, closes_of, entries_of, needs_of, phase_entries, phase_references, references_kept, zero_reference, zero_row}
 use Rattle.conn_core.specs.Steps.{Request, asked, closed_by, started}
 use Rattle.conn_core.specs.Tables.{Table, at_moment, ended_row, is_open, is_queued, is_reference, is_row_of, is_sent, is_sent_with, lost_row, phase_sent, references_of, sent_row}
 use Rattle.conn_core.specs.declared.entries.Entry.{Entry}
@@ -17,7 +17,7 @@ use Rattle.conn_core.specs.declared.rows.Phase.TheVariants.{Queued, Sent, Ended}
 use Rattle.conn_core.specs.declared.rows.Row.{Row}
 use Rattle.conn_core.specs.declared.settings.Settings.{Settings}
 use Rattle.conn_core.proofs.FirstLemmas.{found_passes, weight_change, weight_push, weight_remove}
-use Rattle.conn_core.proofs.RoomLemmas.{entries_of_rows, length-map_rows, lost_entries, lost_references, references_given_up}
+use Rattle.conn_core.proofs.RoomLemmas.{entries_of_rows, length-map_rows, lost_entries, lost_references, lost_zeros, references_given_up, weight_join, zero_references}
 use Rattle.conn_core.proofs.TurnLemmas.{and_left, and_right, closes_where_worn, open_where_worn}
 
 pub closes_bound : (t : Table) → closes_of t ≤ 1
@@ -41,6 +41,7 @@ roomier s n room more t a b c h =
       leases = h.leases;
       requests = h.requests;
       frames = h.frames;
+      zeros = h.zeros;
     }
 
 pub closed_room : (s : Settings) (n m : ℕ) (room : Capacities) (t : Table) (reason : Reason) → n ≤ m → m ≤ s.journal + 1 → m + weight_of entries_of t.rows ≤ room.journal → t.leases ≤ m → t.requests ≤ m → t.frames ≤ m
@@ -51,6 +52,9 @@ closed_room s n m room t reason up end fits leases requests frames h =
     let none = lost_references reason t.rows in
     let given = references_given_up t.rows in
     let len = length-map_rows (lost_row reason) t.rows in
+    let queued = zero_references is_queued t.rows in
+    let sent = zero_references is_sent t.rows in
+    let stay = lost_zeros reason t.rows in
     record {
       journal = omega arith;
       references = omega (arith, length-append t.free (references_of is_queued t.rows), length-append t.quarantined (references_of is_sent t.rows));
@@ -63,6 +67,7 @@ closed_room s n m room t reason up end fits leases requests frames h =
       leases = leases;
       requests = requests;
       frames = frames;
+      zeros = omega (arith, weight_join zero_reference t.free (references_of is_queued t.rows), weight_join zero_reference t.quarantined (references_of is_sent t.rows));
     }
 
 -- the limit is reached by the worn entry

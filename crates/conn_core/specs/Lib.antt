@@ -1,5 +1,6 @@
 pub mod Finds
 pub mod Journals
+pub mod Requests
 pub mod Rooms
 pub mod Steps
 pub mod Tables

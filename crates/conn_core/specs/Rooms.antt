@@ -1,7 +1,8 @@
 -- Room: what the rows, leases and references that stand can still cause never wants memory.
-use Rattle.std.specs.Prelude.{◌≡◌, ℕ, ◌+◌, ◌*◌, ◌≤◌, ◌<◌, ◌^◌, ◌++◌, true, false, if◌then◌else◌, List, length, Option, Some, None, vec_len}
+use Rattle.std.specs.Prelude.{◌≡◌, ℕ, ◌+◌, ◌*◌, ◌≤◌, ◌<◌, ◌^◌, ◌==◌, ◌++◌, true, false, if◌then◌else◌, List, length, Option, Some, None, Result, Ok, Err, Bool, vec_len}
 use Rattle.std.specs.Vec.{vec_capacity}
 use Rattle.std.specs.VecDeque.{deque_capacity}
+use Rattle.wire_frames.specs.declared.asks.Ask.{Ask}
 use Rattle.conn_core.specs.Finds.{weight_of}
 use Rattle.conn_core.specs.Journals.{settled, turn_of}
 use Rattle.conn_core.specs.Tables.{Table as Lists, is_open}
@@ -72,6 +73,13 @@ pub record Capacities : Type 0 where
 abbrev pub capacities_of : Kept → Capacities
 capacities_of k = record { journal = vec_capacity k.journal; free = deque_capacity k.table.free; quarantined = vec_capacity k.table.quarantined }
 
+-- a reference is a number above 0
+abbrev pub zero_reference : ℕ → ℕ
+zero_reference reference = if reference == 0 then 1 else 0
+
+abbrev pub zero_row : Row → ℕ
+zero_row row = zero_reference row.reference
+
 -- a table with so many entries behind it, in lists of these capacities
 pub record IsRoomy (s : Settings) (entries : ℕ) (room : Capacities) (t : Lists) : Type 0 where
   pub journal : entries + needs_of t ≤ room.journal
@@ -85,6 +93,7 @@ pub record IsRoomy (s : Settings) (entries : ℕ) (room : Capacities) (t : Lists
   pub leases : t.leases ≤ entries
   pub requests : t.requests ≤ entries
   pub frames : t.frames ≤ entries
+  pub zeros : weight_of zero_reference t.free + weight_of zero_reference t.quarantined + weight_of zero_row t.rows ≡ 0
 
 -- an open table has fewer entries behind it than the journal's limit
 abbrev pub IsUnderWay : Settings → ℕ → Lists → Type 0
@@ -112,3 +121,12 @@ pub record Turns (s : Settings) (old : List Entry) (t : Lists) (e : Entry) (new 
 pub record Stays (old : List Entry) (t : Lists) (new : List Entry) (u : Lists) : Type 0 where
   pub journal : new ≡ old
   pub table : u ≡ t
+
+-- rows whose asks the wire doesn't carry
+abbrev pub unasked : (Ask → Bool) → Row → ℕ
+unasked p row = if p row.ask then 0 else 1
+
+-- a taken step was written down with its answer
+abbrev pub TurnsAs : {A E : Type 0} → Settings → List Entry → Result (Lists × A) E → (A → Entry) → List Entry → Lists → Type 0
+TurnsAs s old (Ok p) entry new u = Turns s old p.0 (entry p.1) new u
+TurnsAs s old (Err refusal) entry new u = ⊥

@@ -11,6 +11,7 @@ use Rattle.wire_frames.specs.declared.ends.Reason.TheVariants as reasons
 use Rattle.node_tree.specs.declared.readings.Reading.{Reading}
 use Rattle.conn_core.specs.Finds.{change_first, remove_first}
 use Rattle.conn_core.specs.Tables.{Connection, Table, at_moment, deadline_of, ended_row, holds, is_queued, is_reference, is_row_of, is_sent, is_sent_with, lost_row, references_of, sent_row}
+use Rattle.conn_core.specs.declared.answers.Accepted.{Accepted}
 use Rattle.conn_core.specs.declared.answers.AskRefusal.{AskRefusal}
 use Rattle.conn_core.specs.declared.answers.AskRefusal.TheVariants as asks
 use Rattle.conn_core.specs.declared.answers.CancelRefusal.{CancelRefusal}
@@ -64,7 +65,7 @@ pub record Request : Type 0 where
   pub lease : ℕ
   pub ask : Ask
   pub timeout : ℕ
-  pub now : ℕ
+  pub moment : ℕ
 
 -- the request that was accepted, with the frame that carries it
 pub record Started : Type 0 where
@@ -75,7 +76,7 @@ pub record Started : Type 0 where
 abbrev pub started : Table → Request → List ℕ → ℕ → List ℕ → Table × Started
 started t q frame reference rest =
     let id = t.requests + 1 in
-    let clock = max t.clock q.now in
+    let clock = max t.clock q.moment in
     let row : Row = record { id = id; actor = q.actor; lease = q.lease; ask = q.ask; reference = reference; deadline = deadline_of clock q.timeout; phase = Queued frame } in
     (record t { rows = t.rows ++ row ∷ []; free = rest; clock = clock; requests = id }, record { id = id; reference = reference; frame = frame })
 
@@ -88,10 +89,6 @@ abbrev pub with_reference : Table → Request → List ℕ → List ℕ → Resu
 with_reference t q frame [] = Err submits.NoReference
 with_reference t q frame (reference ∷ rest) = Ok (started t q frame reference rest)
 
-abbrev pub with_frame : WireMeaning → Table → Request → Result (List ℕ) Refused → Result (Table × Started) SubmitRefusal
-with_frame wire t q (Err refused) = Err (submits.Unwritable refused.entry refused.why)
-with_frame wire t q (Ok frame) = if nat_lt wire.limit (wire.size q.ask) then Err (submits.TooLarge (wire.size q.ask) wire.limit) else with_reference t q frame t.free
-
 -- the reference to try, where the caller may hand in a request
 abbrev pub place_for : Table → ℕ → ℕ → Result ℕ SubmitRefusal
 place_for t actor lease =
@@ -100,12 +97,25 @@ place_for t actor lease =
       then (if nat_lt (length t.rows) 1024 then Ok (next_reference t.free) else Err submits.TableFull)
       else Err submits.NoLease)
 
-abbrev pub with_place : WireMeaning → Table → Request → Result ℕ SubmitRefusal → Result (Table × Started) SubmitRefusal
-with_place wire t q (Err refusal) = Err refusal
-with_place wire t q (Ok reference) = with_frame wire t q (wire.frame_of q.ask reference)
+-- the frame that carries the ask, where it can be written and is within the limit
+abbrev pub frame_for : WireMeaning → Ask → Result (List ℕ) Refused → Result (List ℕ) SubmitRefusal
+frame_for wire ask (Err refused) = Err (submits.Unwritable refused.entry refused.why)
+frame_for wire ask (Ok frame) = if nat_lt wire.limit (wire.size ask) then Err (submits.TooLarge (wire.size ask) wire.limit) else Ok frame
+
+abbrev pub frame_at : WireMeaning → Ask → Result ℕ SubmitRefusal → Result (List ℕ) SubmitRefusal
+frame_at wire ask (Err refusal) = Err refusal
+frame_at wire ask (Ok reference) = frame_for wire ask (wire.frame_of ask reference)
+
+abbrev pub prepared : WireMeaning → Table → Request → Result (List ℕ) SubmitRefusal
+prepared wire t q = frame_at wire q.ask (place_for t q.actor q.lease)
+
+-- only then is the reference drawn, if there is one
+abbrev pub with_frame : Table → Request → Result (List ℕ) SubmitRefusal → Result (Table × Started) SubmitRefusal
+with_frame t q (Err refusal) = Err refusal
+with_frame t q (Ok frame) = with_reference t q frame t.free
 
 abbrev pub submit : WireMeaning → Table → Request → Result (Table × Started) SubmitRefusal
-submit wire t q = with_place wire t q (place_for t q.actor q.lease)
+submit wire t q = with_frame t q (prepared wire t q)
 
 -- TakeSend: the queued row with the least id is sent, unless `window` rows are sent and live
 abbrev pub with_queued_frame : Table → Row → Phase → Result (Table × Sending) SendRefusal
@@ -141,19 +151,27 @@ without_row t reference (Some r) =
     (record t { quarantined = remove_first (is_reference reference) t.quarantined; free = t.free ++ reference ∷ [] }, frames.Late reference)
 without_row t reference None = (t, frames.Stray reference)
 
+abbrev pub ended_answer : Row → Outcome → FrameAnswer
+ended_answer row outcome = frames.Ended row.id outcome.kind
+
 abbrev pub arrived : WireMeaning → Table → ℕ → Reading → Option Row → Table × FrameAnswer
 arrived wire t reference reading None = without_row t reference (find (is_reference reference) t.quarantined)
 arrived wire t reference reading (Some row) =
     let outcome = wire.fit row.ask reading in
-    (record t { rows = change_first (is_sent_with reference) (ended_row outcome) t.rows; free = t.free ++ reference ∷ [] }, frames.Ended row.id outcome.kind)
+    (record t { rows = change_first (is_sent_with reference) (ended_row outcome) t.rows; free = t.free ++ reference ∷ [] }, ended_answer row outcome)
 
 -- a frame that can't be read closes the table, and has a number among all frames that were taken
+abbrev pub refused_frame : Table → FrameWhy → Table × FrameAnswer
+refused_frame t why = (closed_by (reasons.Undecodable t.frames why) (record t { frames = t.frames + 1 }), frames.Undecodable t.frames why)
+
+abbrev pub counted : Table × FrameAnswer → Table × FrameAnswer
+counted p = (record p.0 { frames = p.0.frames + 1 }, p.1)
+
 abbrev pub received : WireMeaning → Table → List ℕ → Result Reading FrameWhy → Table × FrameAnswer
-received wire t bytes (Err why) =
-    (closed_by (reasons.Undecodable t.frames why) (record t { frames = t.frames + 1 }), frames.Undecodable t.frames why)
+received wire t bytes (Err why) = refused_frame t why
 received wire t bytes (Ok reading) =
     let reference = wire.reference_of bytes in
-    arrived wire (record t { frames = t.frames + 1 }) reference reading (find (is_sent_with reference) t.rows)
+    counted (arrived wire t reference reading (find (is_sent_with reference) t.rows))
 
 abbrev pub apply_frame : WireMeaning → Table → List ℕ → Result (Table × FrameAnswer) FrameRefusal
 apply_frame wire t bytes = when_open frame_refusals.Closed t.closed (Ok (received wire t bytes (wire.reading_of bytes)))
@@ -202,6 +220,11 @@ table_or t (Err refusal) = t
 abbrev pub IsGiven : {A E : Type 0} → E → Result A E → Result A E → Type 0
 IsGiven no_memory result wanted = (result ≡ wanted) ⊎ (result ≡ Err no_memory)
 
+-- what a caller is told of a request that was accepted
+abbrev pub accepted_of : {E : Type 0} → Result Started E → Result Accepted E
+accepted_of (Ok s) = Ok (record { id = s.id; reference = s.reference })
+accepted_of (Err refusal) = Err refusal
+
 -- How an entry writes the answers.
 abbrev pub asked_answer : LeaseAnswer → Answer
 asked_answer (leases.Granted lease) = answers.Granted lease
@@ -226,7 +249,7 @@ abbrev pub step : Connection → Table → ℕ → Event → Option (Table × An
 step c t actor (AskLease now) = taken asked_answer (ask_lease c.settings t actor now)
 step c t actor (Release lease now) = None
 step c t actor (Submit lease ask timeout now) =
-    taken started_answer (submit c.wire t (record { actor = actor; lease = lease; ask = ask; timeout = timeout; now = now }))
+    taken started_answer (submit c.wire t (record { actor = actor; lease = lease; ask = ask; timeout = timeout; moment = now }))
 step c t actor TakeSend = taken (λ sending. answers.Sent sending.id) (take_send c.settings t)
 step c t actor (Frame bytes) = taken frame_answer (apply_frame c.wire t bytes)
 step c t actor (Cancel id) = taken (λ _. answers.Cancelled) (cancel t actor id)

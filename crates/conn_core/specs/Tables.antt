@@ -89,11 +89,11 @@ is_sent row = phase_sent row.phase
 abbrev pub is_ended : Row → Bool
 is_ended row = phase_ended row.phase
 
-abbrev pub is_sent_with : ℕ → Row → Bool
-is_sent_with reference row = (row.reference == reference) && is_sent row
-
 abbrev pub is_reference : ℕ → ℕ → Bool
 is_reference reference other = other == reference
+
+abbrev pub is_sent_with : ℕ → Row → Bool
+is_sent_with reference row = is_reference reference row.reference && is_sent row
 
 abbrev pub is_row_of : ℕ → ℕ → Row → Bool
 is_row_of actor id row = (row.id == id) && (row.actor == actor)

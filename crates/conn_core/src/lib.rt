@@ -10,11 +10,15 @@ mod ending;
 mod ends;
 mod entries;
 mod finding;
+mod frames;
 mod kept;
 mod lists;
+mod receiving;
+mod requests;
 mod rows;
 mod sending;
 mod settings;
+mod submitting;
 mod tables;
 
 pub use answers::{
