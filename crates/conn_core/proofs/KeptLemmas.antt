@@ -11,7 +11,7 @@ use Rattle.conn_core.specs.declared.settings.Settings.{Settings}
 use Rattle.conn_core.proofs.StepRoom.{roomier, turn_room}
 
 -- room for a table's lists serves the same lists
-moved : (s : Settings) (n m : ℕ) (room more : Capacities) (t u : Table) → n ≡ m → t ≡ u → room.journal ≤ more.journal → room.free ≤ more.free → room.quarantined ≤ more.quarantined
+pub moved : (s : Settings) (n m : ℕ) (room more : Capacities) (t u : Table) → n ≡ m → t ≡ u → room.journal ≤ more.journal → room.free ≤ more.free → room.quarantined ≤ more.quarantined
     → IsRoomy s n room t → IsUnderWay s n t → IsRoomy s m more u × IsUnderWay s m u
 moved s n m room more t u same tables a b c h way =
     (subst (λ v. IsRoomy s m more v) tables (subst (λ k. IsRoomy s k more t) same (roomier s n room more t a b c h)), subst (λ v. IsUnderWay s m v) tables (subst (λ k. IsUnderWay s k t) same way))

@@ -1,17 +1,19 @@
-ghost use Rattle.std.specs.Prelude.{◌≡◌, ◌+◌, ◌≤◌, ◌*◌, ◌++◌, OnOk, vec_len, length};
+ghost use Rattle.std.specs.Prelude.{◌≡◌, ◌+◌, ◌≤◌, ◌*◌, ◌++◌, [], IfOk, OnOk, vec_len, length};
+ghost use Rattle.std.specs.List.{range_with_len};
 ghost use Rattle.std.specs.Vec.{vec_capacity};
 ghost use Rattle.std.specs.VecDeque.{deque_len, deque_capacity};
 ghost use Rattle.conn_core.specs.Finds.{weight_of};
 ghost use Rattle.conn_core.specs.Journals.{settled, turn_of, wears, worn_entry};
-ghost use Rattle.conn_core.specs.Rooms.{CanTurn, IsKept, Turns, capacities_of, closes_of, lists_of, references_kept};
-ghost use Rattle.conn_core.specs.Tables.{is_open};
+ghost use Rattle.conn_core.specs.Rooms.{CanTurn, IsKept, IsSettings, Turns, capacities_of, closes_of, lists_of, references_kept};
+ghost use Rattle.conn_core.specs.Tables.{is_open, opening};
 
 use crate::closing::close;
 use crate::entries::{Answer, Entry, Event};
-use crate::lists::add;
+use crate::lists::{add, add_back};
 use crate::settings::Settings;
 use crate::tables::Table;
-use std::alloc::AllocError;
+use std::alloc::{AllocError, Global};
+use std::collections::VecDeque;
 use wire_frames::Reason;
 
 /// What a connection keeps: its journal, and the table that the journal leads to.
@@ -96,4 +98,44 @@ pub(crate) fn write_down(kept: &mut Kept, settings: &Settings, entry: Entry)
     ensures kept { IsKept settings.now kept.new }
 {
     record(&mut kept.journal, &mut kept.table, settings, entry);
+}
+
+/// The references from 1 to `count`.
+fn first_references(alloc: Global, count: u16) -> Result<VecDeque<u16>, AllocError>
+    ensures items { IfOk result (λ free. free.items ≡ range_with_len 1 count) }
+    ensures room { IfOk result (λ free. count ≤ deque_capacity free) }
+{
+    let mut free = VecDeque::with_capacity(alloc, usize::from(count))?;
+    for reference in 0..count {
+        add_back(&mut free, reference + 1);
+    }
+    Ok(free)
+}
+
+/// An empty journal and the opening table, with the room that they need to close.
+pub(crate) fn open_kept(alloc: Global, settings: &Settings) -> Result<Kept, AllocError>
+    requires { IsSettings settings.now }
+    ensures journal { IfOk result (λ kept. kept.journal.items ≡ []) }
+    ensures table { IfOk result (λ kept. lists_of kept.table ≡ opening settings.now) }
+    ensures kept { IfOk result (λ kept. IsKept settings.now kept) }
+{
+    let journal = Vec::with_capacity(alloc, 1)?;
+    let free = first_references(alloc, settings.references)?;
+    let quarantined = Vec::with_capacity(alloc, usize::from(settings.references))?;
+    Ok(Kept {
+        journal,
+        table: Table {
+            alloc,
+            rows: Vec::new(alloc),
+            free,
+            quarantined,
+            held: Vec::new(alloc),
+            waiting: Vec::new(alloc),
+            clock: 0,
+            closed: None,
+            leases: 0,
+            requests: 0,
+            frames: 0,
+        },
+    })
 }

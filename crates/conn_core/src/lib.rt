@@ -6,6 +6,7 @@ mod answers;
 mod asking;
 mod calls;
 mod closing;
+mod conn;
 mod ending;
 mod ends;
 mod entries;
@@ -25,6 +26,7 @@ pub use answers::{
     Accepted, AskRefusal, CancelRefusal, FrameAnswer, FrameRefusal, LeaseAnswer, LeaseRefusal,
     SendRefusal, Sending, SubmitRefusal, TakeRefusal, Ticked,
 };
+pub use conn::ConnState;
 pub use entries::{Answer, Entry, EntryList, Event};
 pub use rows::{Lease, Phase, Row};
 pub use settings::Settings;
