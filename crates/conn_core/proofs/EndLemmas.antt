@@ -39,8 +39,8 @@ sends_queued s t at row now frame opens fewer first is queued sent =
     let found = first.found row (sym is) in
     let test : nat_lt (count_by is_sent t.rows) s.window ≡ true = grind (arith, nat_tests) in
     let call : take_send s t ≡ with_queued_frame t row (Queued frame) =
-      ap (λ closed. when_open {A = Table × Sending} sends.Closed closed (if nat_lt (count_by is_sent t.rows) s.window then with_queued t (find is_queued t.rows) else Err sends.Nothing)) opens
-      ∙ ap (λ b. if b then with_queued t (find is_queued t.rows) else Err sends.Nothing) test
-      ∙ ap (with_queued t) found ∙ ap (with_queued_frame t row) queued in
+    ap (λ closed. when_open {A = Table × Sending} sends.Closed closed (if nat_lt (count_by is_sent t.rows) s.window then with_queued t (find is_queued t.rows) else Err sends.Nothing)) opens
+    ∙ ap (λ b. if b then with_queued t (find is_queued t.rows) else Err sends.Nothing) test
+    ∙ ap (with_queued t) found ∙ ap (with_queued_frame t row) queued in
     let rows : set t.rows at now ≡ change_first is_queued sent_row t.rows = ap (set t.rows at) sent ∙ sym (first.changed sent_row row (sym is)) in
     ap (λ rs. record t { rows = rs }) rows ∙ sym (ap (table_or t) call)

@@ -44,9 +44,9 @@ pub ask_turns : (s : Settings) (n : ℕ) (room : Capacities) (t : Table) (actor 
 ask_turns s n room t actor now a given share more h way =
     let w : Result (Table × LeaseAnswer) _ = Ok (asked s (at_moment now t) actor) in
     when_open_ok (CanTurn s n room) asks.Closed t t.closed (if nat_lt (length t.waiting) 64 then w else Err asks.QueueFull) a given (λ unclosed ok.
-      if_ok (CanTurn s n room) t (nat_lt (length t.waiting) 64) w asks.QueueFull a ok (λ test _.
-        let few : length t.waiting < 64 = grind (arith, nat_tests) in
-        record { after = asked_room s n room t actor now unclosed few share more h; under_way = asked_under_way s n t actor now _ way }))
+    if_ok (CanTurn s n room) t (nat_lt (length t.waiting) 64) w asks.QueueFull a ok (λ test _.
+    let few : length t.waiting < 64 = grind (arith, nat_tests) in
+    record { after = asked_room s n room t actor now unclosed few share more h; under_way = asked_under_way s n t actor now _ way }))
 
 send_turns_frame : (s : Settings) (n : ℕ) (room : Capacities) (t : Table) (row : Row) (phase : Phase) (a : Sending) → row.phase ≡ phase → t.closed ≡ None → find is_queued t.rows ≡ Some row → Ok a ≡ answer_of (with_queued_frame t row phase) → IsRoomy s n room t → IsUnderWay s n t
     → CanTurn s n room (table_or t (with_queued_frame t row phase))
@@ -64,8 +64,8 @@ pub send_turns : (s : Settings) (n : ℕ) (room : Capacities) (t : Table) (a : S
 send_turns s n room t a given h way =
     let w = with_queued t (find is_queued t.rows) in
     when_open_ok (CanTurn s n room) sends.Closed t t.closed (if nat_lt (count_by is_sent t.rows) s.window then w else Err sends.Nothing) a given (λ unclosed ok.
-      if_ok (CanTurn s n room) t (nat_lt (count_by is_sent t.rows) s.window) w sends.Nothing a ok (λ _ sent.
-        send_turns_row s n room t (find is_queued t.rows) a refl unclosed sent h way))
+    if_ok (CanTurn s n room) t (nat_lt (count_by is_sent t.rows) s.window) w sends.Nothing a ok (λ _ sent.
+    send_turns_row s n room t (find is_queued t.rows) a refl unclosed sent h way))
 
 cancel_turns_phase : (s : Settings) (n : ℕ) (room : Capacities) (t : Table) (actor id : ℕ) (row : Row) (phase : Phase) → row.phase ≡ phase → find (is_row_of actor id) t.rows ≡ Some row → Ok tt ≡ answer_of (cancel_row t actor id row phase) → IsRoomy s n room t → IsUnderWay s n t
     → CanTurn s n room (table_or t (cancel_row t actor id row phase))

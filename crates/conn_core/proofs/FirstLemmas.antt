@@ -17,32 +17,32 @@ pub change_at : {X : Type 0} (p : X → Bool) (f : X → X) (xs : List X) (x : X
 change_at p f [] x h = refl
 change_at p f (y ∷ ys) x h =
     elim (p y) as (λ b. cond b (Some y) (find p ys) ≡ Some x → cond b (f y ∷ ys) (y ∷ change_first p f ys) ≡ set (y ∷ ys) (cond (not b) (1 + position_or_len p ys) 0) (f x)) [
-      true ↦ λ e. let same : y ≡ x = cc in ap (λ z. f z ∷ ys) same
-    | false ↦ λ e. rw (one-add (position_or_len p ys)) (ap (λ zs. y ∷ zs) (change_at p f ys x e))
+      | true ↦ λ e. let same : y ≡ x = cc in ap (λ z. f z ∷ ys) same
+      | false ↦ λ e. rw (one-add (position_or_len p ys)) (ap (λ zs. y ∷ zs) (change_at p f ys x e))
     ] h
 
 pub remove_at : {X : Type 0} (p : X → Bool) (xs : List X) → remove_first p xs ≡ remove xs (position_or_len p xs)
 remove_at p [] = refl
 remove_at p (y ∷ ys) =
     elim (p y) as (λ b. cond b ys (y ∷ remove_first p ys) ≡ remove (y ∷ ys) (cond (not b) (1 + position_or_len p ys) 0)) [
-      true ↦ refl
-    | false ↦ rw (one-add (position_or_len p ys)) (ap (λ zs. y ∷ zs) (remove_at p ys))
+      | true ↦ refl
+      | false ↦ rw (one-add (position_or_len p ys)) (ap (λ zs. y ∷ zs) (remove_at p ys))
     ]
 
 pub weight_change : {X : Type 0} (w : X → ℕ) (p : X → Bool) (f : X → X) (xs : List X) (x : X) → find p xs ≡ Some x → weight_of w (change_first p f xs) + w x ≡ weight_of w xs + w (f x)
 weight_change w p f [] x h = cc
 weight_change w p f (y ∷ ys) x h =
     elim (p y) as (λ b. cond b (Some y) (find p ys) ≡ Some x → weight_of w (cond b (f y ∷ ys) (y ∷ change_first p f ys)) + w x ≡ w y + weight_of w ys + w (f x)) [
-      true ↦ λ e. let same : y ≡ x = cc in let one : w y ≡ w x = ap w same in let two : w (f y) ≡ w (f x) = ap (λ z. w (f z)) same in omega arith
-    | false ↦ λ e. let rest = weight_change w p f ys x e in omega arith
+      | true ↦ λ e. let same : y ≡ x = cc in let one : w y ≡ w x = ap w same in let two : w (f y) ≡ w (f x) = ap (λ z. w (f z)) same in omega arith
+      | false ↦ λ e. let rest = weight_change w p f ys x e in omega arith
     ] h
 
 pub weight_remove : {X : Type 0} (w : X → ℕ) (p : X → Bool) (xs : List X) (x : X) → find p xs ≡ Some x → weight_of w (remove_first p xs) + w x ≡ weight_of w xs
 weight_remove w p [] x h = cc
 weight_remove w p (y ∷ ys) x h =
     elim (p y) as (λ b. cond b (Some y) (find p ys) ≡ Some x → weight_of w (cond b ys (y ∷ remove_first p ys)) + w x ≡ w y + weight_of w ys) [
-      true ↦ λ e. let same : y ≡ x = cc in let one : w y ≡ w x = ap w same in omega arith
-    | false ↦ λ e. let rest = weight_remove w p ys x e in omega arith
+      | true ↦ λ e. let same : y ≡ x = cc in let one : w y ≡ w x = ap w same in omega arith
+      | false ↦ λ e. let rest = weight_remove w p ys x e in omega arith
     ] h
 
 pub weight_push : {X : Type 0} (w : X → ℕ) (xs : List X) (x : X) → weight_of w (xs ++ x ∷ []) ≡ weight_of w xs + w x

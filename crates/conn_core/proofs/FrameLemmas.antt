@@ -49,5 +49,5 @@ arrives wire t reference at reading row now outcome free first is fits ends free
     let p = is_sent_with reference in
     let call : (arrived wire t reference reading (find p t.rows)).0 ≡ (arrived wire t reference reading (Some row)).0 = ap (λ o. (arrived wire t reference reading o).0) (first.found row (sym is)) in
     let rows : set t.rows at now ≡ change_first p (ended_row (wire.fit row.ask reading)) t.rows =
-      ap (set t.rows at) (ends ∙ ap (λ o. ended_row o row) fits) ∙ sym (first.changed (ended_row (wire.fit row.ask reading)) row (sym is)) in
+    ap (set t.rows at) (ends ∙ ap (λ o. ended_row o row) fits) ∙ sym (first.changed (ended_row (wire.fit row.ask reading)) row (sym is)) in
     ap (λ rs. record t { rows = rs; free = free }) rows ∙ ap (λ fs. record t { rows = change_first p (ended_row (wire.fit row.ask reading)) t.rows; free = fs }) frees ∙ sym call

@@ -68,4 +68,4 @@ pub frame_turns : (wire : WireMeaning) (s : Settings) (n : ℕ) (room : Capaciti
     → CanTurn s n room (table_or t (apply_frame wire t bytes))
 frame_turns wire s n room t bytes a given more h way =
     when_open_ok (CanTurn s n room) frame_refusals.Closed t t.closed (Ok (received wire t bytes (wire.reading_of bytes))) a given (λ unclosed ok.
-      received_turns wire s n room t bytes (wire.reading_of bytes) unclosed more h way)
+    received_turns wire s n room t bytes (wire.reading_of bytes) unclosed more h way)

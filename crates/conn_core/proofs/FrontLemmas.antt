@@ -41,8 +41,8 @@ references_more p zero (r ∷ rows) row h e = ap (λ z. references_of p (z ∷ [
 references_more p (suc i) (r ∷ rows) row h e =
     let rest = references_more p i rows row (omega arith) e in
     elim (p r) as (λ b. cond b (r.reference ∷ references_of p (take (suc i) rows)) (references_of p (take (suc i) rows)) ≡ cond b (r.reference ∷ references_of p (take i rows)) (references_of p (take i rows)) ++ references_of p (row ∷ [])) [
-      true ↦ ap (λ rs. r.reference ∷ rs) rest
-    | false ↦ rest
+      | true ↦ ap (λ rs. r.reference ∷ rs) rest
+      | false ↦ rest
     ]
 
 -- the item at i stands as it was

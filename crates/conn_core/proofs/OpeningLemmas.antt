@@ -53,17 +53,17 @@ opened_kept s k settings empty begins a b c =
 
 abbrev pub begun : List Row → List ℕ → List ℕ → List Lease → List Lease → Table
 begun rows free quarantined held waiting = record {
-    rows = rows;
-    free = free;
-    quarantined = quarantined;
-    held = held;
-    waiting = waiting;
-    clock = 0;
-    closed = None;
-    leases = 0;
-    requests = 0;
-    frames = 0;
-  }
+  rows = rows;
+  free = free;
+  quarantined = quarantined;
+  held = held;
+  waiting = waiting;
+  clock = 0;
+  closed = None;
+  leases = 0;
+  requests = 0;
+  frames = 0;
+}
 
 pub opening_is : (s : Settings) (rows : List Row) (free quarantined : List ℕ) (held waiting : List Lease) → rows ≡ [] → free ≡ range_with_len 1 s.references → quarantined ≡ [] → held ≡ [] → waiting ≡ [] → begun rows free quarantined held waiting ≡ opening s
 opening_is s rows free quarantined held waiting a b c d e =

@@ -61,4 +61,4 @@ settled s entries t = settled_if (wears s entries t) t
 pub data Legal (c : Connection) : List Entry → Type 0 where
   opened : Legal c []
   turned : (journal : List Entry) (e : Entry) (t : Table) → Legal c journal → is_worn e.event ≡ false → step c (table_of c journal) e.actor e.event ≡ Some (t, e.answer)
-    → Legal c (journal ++ turn_of c.settings (length journal + 1) t e)
+      → Legal c (journal ++ turn_of c.settings (length journal + 1) t e)

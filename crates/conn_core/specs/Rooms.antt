@@ -17,17 +17,17 @@ use Rattle.conn_core.specs.declared.tables.Table.{Table}
 -- the lists of a table as the program keeps it
 abbrev pub lists_of : Table → Lists
 lists_of t = record {
-    rows = t.rows.items;
-    free = t.free.items;
-    quarantined = t.quarantined.items;
-    held = t.held.items;
-    waiting = t.waiting.items;
-    clock = t.clock;
-    closed = t.closed;
-    leases = t.leases;
-    requests = t.requests;
-    frames = t.frames;
-  }
+  rows = t.rows.items;
+  free = t.free.items;
+  quarantined = t.quarantined.items;
+  held = t.held.items;
+  waiting = t.waiting.items;
+  clock = t.clock;
+  closed = t.closed;
+  leases = t.leases;
+  requests = t.requests;
+  frames = t.frames;
+}
 
 -- how many entries a row can still cause without taking memory: it is sent, it ends, it is collected
 abbrev pub phase_entries : Phase → ℕ

@@ -93,9 +93,9 @@ with_reference t q frame (reference ∷ rest) = Ok (started t q frame reference 
 abbrev pub place_for : Table → ℕ → ℕ → Result ℕ SubmitRefusal
 place_for t actor lease =
     when_open submits.Closed t.closed (
-      if holds actor lease t
-      then (if nat_lt (length t.rows) 1024 then Ok (next_reference t.free) else Err submits.TableFull)
-      else Err submits.NoLease)
+    if holds actor lease t
+    then (if nat_lt (length t.rows) 1024 then Ok (next_reference t.free) else Err submits.TableFull)
+    else Err submits.NoLease)
 
 -- the frame that carries the ask, where it can be written and is within the limit
 abbrev pub frame_for : WireMeaning → Ask → Result (List ℕ) Refused → Result (List ℕ) SubmitRefusal
@@ -134,13 +134,13 @@ take_send s t =
 -- Close: every live row is lost with the reason. References of rows that were sent are put in quarantine, the others are free again
 abbrev pub closed_by : Reason → Table → Table
 closed_by reason t = record t {
-    rows = map (lost_row reason) t.rows;
-    free = t.free ++ references_of is_queued t.rows;
-    quarantined = t.quarantined ++ references_of is_sent t.rows;
-    held = [];
-    waiting = [];
-    closed = Some reason;
-  }
+  rows = map (lost_row reason) t.rows;
+  free = t.free ++ references_of is_queued t.rows;
+  quarantined = t.quarantined ++ references_of is_sent t.rows;
+  held = [];
+  waiting = [];
+  closed = Some reason;
+}
 
 abbrev pub close : Table → Reason → Result (Table × Unit {0}) Reason
 close t reason = when_open (λ stands. stands) t.closed (Ok (closed_by reason t, tt))

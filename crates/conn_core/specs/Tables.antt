@@ -34,17 +34,17 @@ pub record Table : Type 0 where
 
 abbrev pub opening : Settings → Table
 opening s = record {
-    rows = [];
-    free = range_with_len 1 s.references;
-    quarantined = [];
-    held = [];
-    waiting = [];
-    clock = 0;
-    closed = None;
-    leases = 0;
-    requests = 0;
-    frames = 0;
-  }
+  rows = [];
+  free = range_with_len 1 s.references;
+  quarantined = [];
+  held = [];
+  waiting = [];
+  clock = 0;
+  closed = None;
+  leases = 0;
+  requests = 0;
+  frames = 0;
+}
 
 abbrev pub is_open : Table → Bool
 is_open t = elim t.closed [ None ↦ true | Some reason ↦ false ]

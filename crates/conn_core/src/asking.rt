@@ -10,7 +10,12 @@ use crate::settings::Settings;
 use crate::tables::{Table, find_deadline};
 
 /// Grants a lease, or lets its actor wait for one.
-pub(crate) fn ask(table: &mut Table, settings: &Settings, actor: u32, now: u64) -> Result<LeaseAnswer, AskRefusal>
+pub(crate) fn ask(
+    table: &mut Table,
+    settings: &Settings,
+    actor: u32,
+    now: u64,
+) -> Result<LeaseAnswer, AskRefusal>
     requires held { vec_len table.old.held < vec_capacity table.old.held }
     requires waiting { vec_len table.old.waiting < vec_capacity table.old.waiting }
     requires leases { table.old.leases < 2 ^ 64 - 1 }
@@ -30,11 +35,25 @@ pub(crate) fn ask(table: &mut Table, settings: &Settings, actor: u32, now: u64) 
     let lease = table.leases;
     if table.held.len() < usize::from(settings.share) && table.waiting.is_empty() {
         let deadline = find_deadline(table.clock, settings.lease_ms);
-        add(&mut table.held, Lease { number: lease, actor, deadline });
+        add(
+            &mut table.held,
+            Lease {
+                number: lease,
+                actor,
+                deadline,
+            },
+        );
         return Ok(LeaseAnswer::Granted { lease });
     }
     let place = table.waiting.len() as u8;
     let deadline = find_deadline(table.clock, settings.wait_ms);
-    add(&mut table.waiting, Lease { number: lease, actor, deadline });
+    add(
+        &mut table.waiting,
+        Lease {
+            number: lease,
+            actor,
+            deadline,
+        },
+    );
     Ok(LeaseAnswer::Waiting { lease, place })
 }

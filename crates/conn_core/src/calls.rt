@@ -38,7 +38,12 @@ fn reserve_lease(kept: &mut Kept, settings: &Settings) -> Result<(), AllocError>
     kept.table.waiting.reserve(1)
 }
 
-pub(crate) fn ask_lease(kept: &mut Kept, settings: &Settings, actor: u32, now: u64) -> Result<LeaseAnswer, AskRefusal>
+pub(crate) fn ask_lease(
+    kept: &mut Kept,
+    settings: &Settings,
+    actor: u32,
+    now: u64,
+) -> Result<LeaseAnswer, AskRefusal>
     requires settings { IsSettings settings.now }
     requires kept { IsKept settings.now kept.old }
     ensures answer { IsGiven AskRefusal.NoMemory result (answer_of (ask_lease settings.now (lists_of kept.old.table) actor now)) }
@@ -57,7 +62,11 @@ pub(crate) fn ask_lease(kept: &mut Kept, settings: &Settings, actor: u32, now: u
     Ok(answer)
 }
 
-pub(crate) fn take_send(kept: &mut Kept, settings: &Settings, actor: u32) -> Result<Sending, SendRefusal>
+pub(crate) fn take_send(
+    kept: &mut Kept,
+    settings: &Settings,
+    actor: u32,
+) -> Result<Sending, SendRefusal>
     requires { IsKept settings.now kept.old }
     ensures answer { result ≡ answer_of (take_send settings.now (lists_of kept.old.table)) }
     ensures turned { IfOk result (λ sending. Turns settings.now kept.old.journal.items (table_or (lists_of kept.old.table) (take_send settings.now (lists_of kept.old.table))) (record { actor = actor; event = events.TakeSend; answer = answers.Sent sending.id }) kept.new.journal.items (lists_of kept.new.table)) }
@@ -74,7 +83,12 @@ pub(crate) fn take_send(kept: &mut Kept, settings: &Settings, actor: u32) -> Res
     Ok(sending)
 }
 
-pub(crate) fn cancel(kept: &mut Kept, settings: &Settings, actor: u32, id: u64) -> Result<(), CancelRefusal>
+pub(crate) fn cancel(
+    kept: &mut Kept,
+    settings: &Settings,
+    actor: u32,
+    id: u64,
+) -> Result<(), CancelRefusal>
     requires { IsKept settings.now kept.old }
     ensures answer { result ≡ answer_of (cancel (lists_of kept.old.table) actor id) }
     ensures turned { OnOk result (Turns settings.now kept.old.journal.items (table_or (lists_of kept.old.table) (cancel (lists_of kept.old.table) actor id)) (record { actor = actor; event = events.Cancel id; answer = answers.Cancelled }) kept.new.journal.items (lists_of kept.new.table)) }
@@ -91,7 +105,12 @@ pub(crate) fn cancel(kept: &mut Kept, settings: &Settings, actor: u32, id: u64) 
     Ok(())
 }
 
-pub(crate) fn collect(kept: &mut Kept, settings: &Settings, actor: u32, id: u64) -> Result<Outcome, TakeRefusal>
+pub(crate) fn collect(
+    kept: &mut Kept,
+    settings: &Settings,
+    actor: u32,
+    id: u64,
+) -> Result<Outcome, TakeRefusal>
     requires { IsKept settings.now kept.old }
     ensures answer { result ≡ answer_of (collect (lists_of kept.old.table) actor id) }
     ensures turned { IfOk result (λ outcome. Turns settings.now kept.old.journal.items (table_or (lists_of kept.old.table) (collect (lists_of kept.old.table) actor id)) (record { actor = actor; event = events.Collect id; answer = answers.Collected outcome.kind }) kept.new.journal.items (lists_of kept.new.table)) }

@@ -15,7 +15,13 @@ use std::collections::VecDeque;
 use wire_frames::Reason;
 
 /// Ends a live row, and puts its reference where it belongs.
-fn lose_row(row: &mut Row, alloc: Global, reason: Reason, free: &mut VecDeque<u16>, quarantined: &mut Vec<u16>)
+fn lose_row(
+    row: &mut Row,
+    alloc: Global,
+    reason: Reason,
+    free: &mut VecDeque<u16>,
+    quarantined: &mut Vec<u16>,
+)
     requires free { deque_len free.old + references_kept row.old ≤ deque_capacity free.old }
     requires quarantined { vec_len quarantined.old + references_kept row.old ≤ vec_capacity quarantined.old }
     ensures row { row.new ≡ lost_row reason row.old }
@@ -40,7 +46,13 @@ fn lose_row(row: &mut Row, alloc: Global, reason: Reason, free: &mut VecDeque<u1
 }
 
 /// Ends every live row, by rising id.
-fn lose_rows(rows: &mut Vec<Row>, alloc: Global, reason: Reason, free: &mut VecDeque<u16>, quarantined: &mut Vec<u16>)
+fn lose_rows(
+    rows: &mut Vec<Row>,
+    alloc: Global,
+    reason: Reason,
+    free: &mut VecDeque<u16>,
+    quarantined: &mut Vec<u16>,
+)
     requires free { deque_len free.old + weight_of references_kept rows.old.items ≤ deque_capacity free.old }
     requires quarantined { vec_len quarantined.old + weight_of references_kept rows.old.items ≤ vec_capacity quarantined.old }
     ensures rows { rows.new.items ≡ map (lost_row reason) rows.old.items }

@@ -6,16 +6,14 @@ ghost use Rattle.conn_core.specs.States.{Grows, connection_of, journal_after, ta
 ghost use Rattle.conn_core.specs.declared.entries.Event.TheVariants as events;
 
 use crate::answers::{
-    Accepted, AskRefusal, CancelRefusal, FrameAnswer, FrameRefusal, LeaseAnswer, SendRefusal, Sending,
-    SubmitRefusal, TakeRefusal,
+    Accepted, AskRefusal, CancelRefusal, FrameAnswer, FrameRefusal, LeaseAnswer, SendRefusal,
+    Sending, SubmitRefusal, TakeRefusal,
 };
-use crate::calls;
 use crate::entries::{Entry, EntryList};
-use crate::frames;
 use crate::kept::{Kept, open_kept};
-use crate::requests;
 use crate::settings::Settings;
 use crate::submitting::Request;
+use crate::{calls, frames, requests};
 use node_tree::{ByteList, OwnedList};
 use std::alloc::{AllocError, Global};
 use std::marker::Model;
@@ -69,7 +67,14 @@ impl<W: Wire> ConnState<W> {
     }
 
     /// Hands in a request, which is queued under the first free reference.
-    pub fn submit(&mut self, actor: u32, lease: u64, ask: Ask, timeout_ms: u32, now: u64) -> Result<Accepted, SubmitRefusal>
+    pub fn submit(
+        &mut self,
+        actor: u32,
+        lease: u64,
+        ask: Ask,
+        timeout_ms: u32,
+        now: u64,
+    ) -> Result<Accepted, SubmitRefusal>
         requires admitted { IsTrue ((W.meaning self.old.key.wire).admits ask) }
         requires timeout { (1 ≤ timeout_ms) × (timeout_ms ≤ 3600000) }
         ensures answer { IsGiven SubmitRefusal.NoMemory result (accepted_of (answer_of (submit (W.meaning self.old.key.wire) (table_in W.meaning self.old) (record { actor = actor; lease = lease; ask = ask; timeout = timeout_ms; moment = now })))) }

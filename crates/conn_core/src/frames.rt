@@ -35,7 +35,13 @@ fn reserve_frame(kept: &mut Kept, settings: &Settings) -> Result<(), AllocError>
 }
 
 /// Takes a frame, and keeps its bytes in the journal.
-pub(crate) fn apply_frame<W: Wire>(kept: &mut Kept, wire: &W, settings: &Settings, actor: u32, frame: ByteList) -> Result<FrameAnswer, FrameRefusal>
+pub(crate) fn apply_frame<W: Wire>(
+    kept: &mut Kept,
+    wire: &W,
+    settings: &Settings,
+    actor: u32,
+    frame: ByteList,
+) -> Result<FrameAnswer, FrameRefusal>
     requires settings { IsSettings settings.now }
     requires kept { IsKept settings.now kept.old }
     requires asks { weight_of (unasked (W.meaning wire.now).admits) kept.old.table.rows.items ≡ 0 }

@@ -21,6 +21,8 @@ mod sending;
 mod settings;
 mod submitting;
 mod tables;
+#[cfg(test)]
+mod tests;
 
 pub use answers::{
     Accepted, AskRefusal, CancelRefusal, FrameAnswer, FrameRefusal, LeaseAnswer, LeaseRefusal,

@@ -45,7 +45,11 @@ fn end_row(row: &mut Row, outcome: Outcome) -> FrameAnswer
 }
 
 /// What a frame that was read does.
-fn arrive<W: Wire>(table: &mut Table, wire: &W, reply: &Reply<'_>) -> Result<FrameAnswer, AllocError>
+fn arrive<W: Wire>(
+    table: &mut Table,
+    wire: &W,
+    reply: &Reply<'_>,
+) -> Result<FrameAnswer, AllocError>
     requires free { deque_len table.old.free + vec_len table.old.quarantined + weight_of references_kept table.old.rows.items ≤ deque_capacity table.old.free }
     requires asks { weight_of (unasked (W.meaning wire.now).admits) table.old.rows.items ≡ 0 }
     requires read { (W.meaning wire.now).reading_of reply.now.frame.now ≡ Ok reply.now.reading }
@@ -84,7 +88,11 @@ fn refuse(table: &mut Table, why: FrameWhy) -> FrameAnswer
 }
 
 /// Takes a frame. Want of memory changes nothing.
-pub(crate) fn receive<W: Wire>(table: &mut Table, wire: &W, bytes: &[u8]) -> Result<FrameAnswer, FrameRefusal>
+pub(crate) fn receive<W: Wire>(
+    table: &mut Table,
+    wire: &W,
+    bytes: &[u8],
+) -> Result<FrameAnswer, FrameRefusal>
     requires free { deque_len table.old.free + vec_len table.old.quarantined + weight_of references_kept table.old.rows.items ≤ deque_capacity table.old.free }
     requires quarantined { vec_len table.old.quarantined + weight_of references_kept table.old.rows.items ≤ vec_capacity table.old.quarantined }
     requires asks { weight_of (unasked (W.meaning wire.now).admits) table.old.rows.items ≡ 0 }

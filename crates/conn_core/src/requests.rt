@@ -17,7 +17,12 @@ use std::alloc::{AllocError, Global};
 use wire_frames::{Ask, FrameFault, Wire};
 
 /// The frame that carries an ask, where it is within the wire's limit.
-fn write_frame<W: Wire>(alloc: Global, wire: &W, ask: &Ask, reference: u16) -> Result<ByteList, SubmitRefusal>
+fn write_frame<W: Wire>(
+    alloc: Global,
+    wire: &W,
+    ask: &Ask,
+    reference: u16,
+) -> Result<ByteList, SubmitRefusal>
     requires admitted { IsTrue ((W.meaning wire.now).admits ask.now) }
     requires referred { 0 < reference }
     ensures { IsGiven SubmitRefusal.NoMemory result (frame_for (W.meaning wire.now) ask.now ((W.meaning wire.now).frame_of ask.now reference)) }
@@ -60,7 +65,12 @@ fn reserve_request(kept: &mut Kept, settings: &Settings) -> Result<(), AllocErro
 }
 
 /// Hands in a request.
-pub(crate) fn submit<W: Wire>(kept: &mut Kept, wire: &W, settings: &Settings, request: Request) -> Result<Accepted, SubmitRefusal>
+pub(crate) fn submit<W: Wire>(
+    kept: &mut Kept,
+    wire: &W,
+    settings: &Settings,
+    request: Request,
+) -> Result<Accepted, SubmitRefusal>
     requires settings { IsSettings settings.now }
     requires kept { IsKept settings.now kept.old }
     requires admitted { IsTrue ((W.meaning wire.now).admits request.ask) }

@@ -51,7 +51,11 @@ pub(crate) fn find_place(table: &Table, actor: u32, lease: u64) -> Result<u16, S
 }
 
 /// Queues a request under the first free reference.
-pub(crate) fn start(table: &mut Table, request: Request, frame: ByteList) -> Result<Accepted, SubmitRefusal>
+pub(crate) fn start(
+    table: &mut Table,
+    request: Request,
+    frame: ByteList,
+) -> Result<Accepted, SubmitRefusal>
     requires rows { vec_len table.old.rows < vec_capacity table.old.rows }
     requires requests { table.old.requests < 2 ^ 64 - 1 }
     ensures answer { result ≡ accepted_of (answer_of (with_reference (lists_of table.old) (request_of request) frame table.old.free.items)) }
