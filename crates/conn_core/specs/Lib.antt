@@ -1,5 +1,8 @@
+pub mod Ends
 pub mod Finds
+pub mod HistoryLaw
 pub mod Journals
+pub mod LeaseLists
 pub mod Requests
 pub mod Rooms
 pub mod States
