@@ -8,8 +8,11 @@ use Rattle.conn_core.specs.Finds.{weight_of}
 use Rattle.conn_core.specs.Journals.{Legal, opened, turned, after_entries, after_entry, after_step, is_worn, settled, settled_if, table_of, turn_if, turn_of, wears, worn_entry}
 use Rattle.conn_core.specs.Rooms.{IsKept, IsSettings, Stays, Turns, TurnsAs, lists_of, unasked}
 use Rattle.conn_core.specs.States.{Grows, IsState, grown}
-use Rattle.conn_core.specs.Steps.{IsGiven, answer_of, close, closed_by, step, table_or, taken, when_open}
+use Rattle.conn_core.specs.Steps.{IsGiven, Started, accepted_of, answer_of, close, closed_by, started_answer, step, table_or, taken, when_open}
 use Rattle.conn_core.specs.Tables.{Connection, Table, is_open, opening}
+use Rattle.conn_core.specs.declared.answers.Accepted.{Accepted}
+use Rattle.conn_core.specs.declared.answers.SubmitRefusal.{SubmitRefusal}
+use Rattle.conn_core.specs.declared.answers.SubmitRefusal.TheVariants as submits
 use Rattle.conn_core.specs.declared.entries.Answer.{Answer}
 use Rattle.conn_core.specs.declared.entries.Answer.TheVariants as answers
 use Rattle.conn_core.specs.declared.entries.Entry.{Entry}
@@ -138,3 +141,20 @@ opened_state c k settings kept empty begins =
       table = ap (table_of c) empty ∙ sym begins;
       asks = ap (λ t. weight_of (unasked c.wire.admits) t.rows) begins;
     }
+
+refused_submit : (c : Connection) (journal : List Entry) (actor : ℕ) (event : Event) (w : Result (Table × Started) SubmitRefusal) (e : SubmitRefusal) (o : Option (Table × Answer)) → o ≡ taken started_answer w → Err e ≡ accepted_of (answer_of w) → grown c journal actor event o ≡ journal
+refused_submit c journal actor event (Ok p) e o steps given = cc
+refused_submit c journal actor event (Err f) e o steps given = ap (grown c journal actor event) steps
+
+-- the journal after a request that was handed in
+pub submitted_after : (c : Connection) (k m : Kept) (actor : ℕ) (event : Event) (w : Result (Table × Started) SubmitRefusal) (result : Result Accepted SubmitRefusal) → IsState c k → step c (lists_of k.table) actor event ≡ taken started_answer w
+    → IsGiven submits.NoMemory result (accepted_of (answer_of w))
+    → OnOk result (TurnsAs c.settings k.journal.items w (λ a. record { actor = actor; event = event; answer = started_answer a }) m.journal.items (lists_of m.table))
+    → OnErr result (Stays k.journal.items (lists_of k.table) m.journal.items (lists_of m.table))
+    → (result ≡ Err submits.NoMemory) ⊎ (m.journal.items ≡ grown c k.journal.items actor event (step c (table_of c k.journal.items) actor event))
+submitted_after c k m actor event w (Ok a) state steps given turns stays = let result : Result Accepted SubmitRefusal = Ok a in inr (handed_journal c k m actor event w started_answer result state steps turns)
+submitted_after c k m actor event w (Err e) state steps given turns stays =
+    elim given [
+      inl is ↦ inr (stays.journal ∙ sym (refused_submit c k.journal.items actor event w e _ (ap (λ t. step c t actor event) state.table ∙ steps) is))
+    | inr is ↦ inl is
+    ]

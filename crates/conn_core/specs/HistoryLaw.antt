@@ -60,26 +60,22 @@ pub record HistoryLaw (c : Connection) (journal : List Entry) : Type 0 where
   pub collected_once : (j k a b id : ℕ) (kind other : EndKind) → Stands journal j a (events.Collect id) (answers.Collected kind) → Stands journal k b (events.Collect id) (answers.Collected other) → j ≡ k
   -- Once the connection is closed every request has ended.
   pub all_end : (k : ℕ) (e : Entry) → slice_get journal k ≡ Some e → closes e ≡ true → (id : ℕ) (r : Submitted journal id) → (j : ℕ) × (kind : EndKind) × IsEndPlace c journal id r j kind
-
   -- A frame ends a request only after its sending, with its reference, and as the frame's reading fits its ask.
   pub answers_its_own : (k actor : ℕ) (bytes : List ℕ) (id : ℕ) (kind : EndKind) → Stands journal k actor (events.Frame bytes) (answers.Ended id kind)
-    → (r : Submitted journal id) × (j : ℕ) × (j < k) × IsSent journal id j × (c.wire.reference_of bytes ≡ r.reference)
+      → (r : Submitted journal id) × (j : ℕ) × (j < k) × IsSent journal id j × (c.wire.reference_of bytes ≡ r.reference)
       × ((reading : Reading) × (c.wire.reading_of bytes ≡ Ok reading) × (kind ≡ (c.wire.fit r.ask reading).kind))
-
   -- A frame that can be read is answered by an end exactly where a live request with its reference was sent before; it is
   -- late exactly where the reference is awaited and not live; else it is stray.
   pub ends_where_live : (k reference : ℕ) (answer : Answer) → FrameComes c journal k reference answer → ((id : ℕ) × (kind : EndKind) × (answer ≡ answers.Ended id kind)) ↔ LiveSent c (take k journal) reference
   pub late_where_awaited : (k reference : ℕ) (answer : Answer) → FrameComes c journal k reference answer → (answer ≡ answers.Late reference) ↔ (Awaited c (take k journal) reference × (¬ Live c (take k journal) reference))
   pub stray_otherwise : (k reference : ℕ) (answer : Answer) → FrameComes c journal k reference answer
-    → (answer ≡ answers.Stray reference) ↔ ((¬ LiveSent c (take k journal) reference) × (¬ (Awaited c (take k journal) reference × (¬ Live c (take k journal) reference))))
+      → (answer ≡ answers.Stray reference) ↔ ((¬ LiveSent c (take k journal) reference) × (¬ (Awaited c (take k journal) reference × (¬ Live c (take k journal) reference))))
   -- A late frame and a stray one end nothing.
   pub late_ends_nothing : (k actor : ℕ) (bytes : List ℕ) (reference : ℕ) → Stands journal k actor (events.Frame bytes) (answers.Late reference) → (id : ℕ) (r : Submitted journal id) (kind : EndKind) → ¬ IsEndPlace c journal id r k kind
   pub stray_ends_nothing : (k actor : ℕ) (bytes : List ℕ) (reference : ℕ) → Stands journal k actor (events.Frame bytes) (answers.Stray reference) → (id : ℕ) (r : Submitted journal id) (kind : EndKind) → ¬ IsEndPlace c journal id r k kind
-
   -- A request draws a free reference, and the table's free list has exactly the free ones, each once.
   pub draws_free : (id : ℕ) (r : Submitted journal id) → IsFree c (take r.place journal) r.reference
   pub free_are_free : (reference : ℕ) → (0 < occurrences reference (table_of c journal).free) ↔ IsFree c journal reference
   pub free_once : (reference : ℕ) → occurrences reference (table_of c journal).free ≤ 1
-
   -- At most one entry closes, and after it only collections stand.
   pub collects_after_close : (j k : ℕ) (closing e : Entry) → slice_get journal j ≡ Some closing → closes closing ≡ true → j < k → slice_get journal k ≡ Some e → (id : ℕ) × (e.event ≡ events.Collect id)

@@ -40,6 +40,10 @@ abbrev pub journal_after : {W : Type 0} → (W → WireMeaning) → State W → 
 journal_after meaning state actor event =
     let c = connection_of meaning state.key in grown c state.journal actor event (step c (table_of c state.journal) actor event)
 
+-- the state after an event
+abbrev pub state_after : {W : Type 0} → (W → WireMeaning) → State W → ℕ → Event → State W
+state_after meaning state actor event = record { key = state.key; journal = journal_after meaning state actor event }
+
 -- the journal stays, or has one entry more, of this actor, or that entry and a close by a full journal, of this actor too
 abbrev pub Grows : ℕ → List Entry → List Entry → Type 0
 Grows actor old new =

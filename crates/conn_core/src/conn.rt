@@ -1,8 +1,8 @@
-ghost use Rattle.std.specs.Prelude.{◌≡◌, ◌+◌, ◌<◌, ◌≤◌, ◌^◌, [], length, IfOk, OnOk, OnErr, IsTrue};
+ghost use Rattle.std.specs.Prelude.{◌≡◌, ◌+◌, ◌<◌, ◌≤◌, ◌^◌, [], length, ◌⊎◌, Err, IfOk, OnErr, IsTrue};
 ghost use Rattle.conn_core.specs.Journals.{Legal};
 ghost use Rattle.conn_core.specs.Rooms.{IsSettings};
 ghost use Rattle.conn_core.specs.Steps.{IsGiven, accepted_of, answer_of, apply_frame, ask_lease, cancel, collect, submit, take_send};
-ghost use Rattle.conn_core.specs.States.{Grows, connection_of, journal_after, table_in};
+ghost use Rattle.conn_core.specs.States.{Grows, connection_of, state_after, table_in};
 ghost use Rattle.conn_core.specs.declared.entries.Event.TheVariants as events;
 
 use crate::answers::{
@@ -56,7 +56,7 @@ impl<W: Wire> ConnState<W> {
     /// Asks for a lease. It is held at once, or waited for.
     pub fn ask_lease(&mut self, actor: u32, now: u64) -> Result<LeaseAnswer, AskRefusal>
         ensures answer { IsGiven AskRefusal.NoMemory result (answer_of (ask_lease self.old.key.settings (table_in W.meaning self.old) actor now)) }
-        ensures ok { OnOk result (self.new.journal ≡ journal_after W.meaning self.old actor (events.AskLease now)) }
+        ensures state { (result ≡ Err AskRefusal.NoMemory) ⊎ (self.new ≡ state_after W.meaning self.old actor (events.AskLease now)) }
         ensures err { OnErr result (self.new.journal ≡ self.old.journal) }
         ensures key { self.new.key ≡ self.old.key }
         ensures grows { Grows actor self.old.journal self.new.journal }
@@ -78,7 +78,7 @@ impl<W: Wire> ConnState<W> {
         requires admitted { IsTrue ((W.meaning self.old.key.wire).admits ask) }
         requires timeout { (1 ≤ timeout_ms) × (timeout_ms ≤ 3600000) }
         ensures answer { IsGiven SubmitRefusal.NoMemory result (accepted_of (answer_of (submit (W.meaning self.old.key.wire) (table_in W.meaning self.old) (record { actor = actor; lease = lease; ask = ask; timeout = timeout_ms; moment = now })))) }
-        ensures ok { OnOk result (self.new.journal ≡ journal_after W.meaning self.old actor (events.Submit lease ask timeout_ms now)) }
+        ensures state { (result ≡ Err SubmitRefusal.NoMemory) ⊎ (self.new ≡ state_after W.meaning self.old actor (events.Submit lease ask timeout_ms now)) }
         ensures err { OnErr result (self.new.journal ≡ self.old.journal) }
         ensures key { self.new.key ≡ self.old.key }
         ensures grows { Grows actor self.old.journal self.new.journal }
@@ -98,7 +98,7 @@ impl<W: Wire> ConnState<W> {
     /// Hands out the next frame to write. It takes no memory.
     pub fn take_send(&mut self, actor: u32) -> Result<Sending, SendRefusal>
         ensures answer { result ≡ answer_of (take_send self.old.key.settings (table_in W.meaning self.old)) }
-        ensures ok { OnOk result (self.new.journal ≡ journal_after W.meaning self.old actor (events.TakeSend)) }
+        ensures state { self.new ≡ state_after W.meaning self.old actor (events.TakeSend) }
         ensures err { OnErr result (self.new.journal ≡ self.old.journal) }
         ensures key { self.new.key ≡ self.old.key }
         ensures grows { Grows actor self.old.journal self.new.journal }
@@ -111,7 +111,7 @@ impl<W: Wire> ConnState<W> {
     /// Takes a frame that came. Its bytes stand in the journal from then on.
     pub fn apply_frame(&mut self, actor: u32, frame: ByteList) -> Result<FrameAnswer, FrameRefusal>
         ensures answer { IsGiven FrameRefusal.NoMemory result (answer_of (apply_frame (W.meaning self.old.key.wire) (table_in W.meaning self.old) frame)) }
-        ensures ok { OnOk result (self.new.journal ≡ journal_after W.meaning self.old actor (events.Frame frame)) }
+        ensures state { (result ≡ Err FrameRefusal.NoMemory) ⊎ (self.new ≡ state_after W.meaning self.old actor (events.Frame frame)) }
         ensures err { OnErr result (self.new.journal ≡ self.old.journal) }
         ensures key { self.new.key ≡ self.old.key }
         ensures grows { Grows actor self.old.journal self.new.journal }
@@ -124,7 +124,7 @@ impl<W: Wire> ConnState<W> {
     /// Ends a live request of the actor, unanswered. It takes no memory.
     pub fn cancel(&mut self, actor: u32, id: u64) -> Result<(), CancelRefusal>
         ensures answer { result ≡ answer_of (cancel (table_in W.meaning self.old) actor id) }
-        ensures ok { OnOk result (self.new.journal ≡ journal_after W.meaning self.old actor (events.Cancel id)) }
+        ensures state { self.new ≡ state_after W.meaning self.old actor (events.Cancel id) }
         ensures err { OnErr result (self.new.journal ≡ self.old.journal) }
         ensures key { self.new.key ≡ self.old.key }
         ensures grows { Grows actor self.old.journal self.new.journal }
@@ -137,7 +137,7 @@ impl<W: Wire> ConnState<W> {
     /// Hands out how a request of the actor ended, and forgets it. It takes no memory.
     pub fn collect(&mut self, actor: u32, id: u64) -> Result<Outcome, TakeRefusal>
         ensures answer { result ≡ answer_of (collect (table_in W.meaning self.old) actor id) }
-        ensures ok { OnOk result (self.new.journal ≡ journal_after W.meaning self.old actor (events.Collect id)) }
+        ensures state { self.new ≡ state_after W.meaning self.old actor (events.Collect id) }
         ensures err { OnErr result (self.new.journal ≡ self.old.journal) }
         ensures key { self.new.key ≡ self.old.key }
         ensures grows { Grows actor self.old.journal self.new.journal }
