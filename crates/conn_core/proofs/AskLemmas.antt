@@ -1,17 +1,16 @@
 -- Each step keeps that the wire carries the ask of every row.
-use Rattle.std.proofs.Common.{◌≡◌, ℕ, ◌+◌, ◌<◌, ◌≤◌, Bool, true, false, cond, IsTrue, List, [], ◌∷◌, ◌++◌, Option, Some, None, Result, Ok, Err, length, refl, sym, ap, ◌∙◌, arith, nat_lt, count_by, max}
+use Rattle.std.proofs.Common.{◌≡◌, ℕ, ◌+◌, ◌≤◌, Bool, true, false, cond, IsTrue, List, [], ◌∷◌, Option, Some, None, Result, Ok, Err, length, refl, ap, arith, nat_lt, count_by, max}
 use Rattle.std.specs.Prelude.{if◌then◌else◌}
 use Rattle.std.specs.List.{find}
 use Rattle.node_tree.specs.declared.readings.Reading.{Reading}
 use Rattle.wire_frames.specs.WireMeaning.{WireMeaning}
 use Rattle.wire_frames.specs.declared.asks.Ask.{Ask}
 use Rattle.wire_frames.specs.declared.ends.FrameWhy.{FrameWhy}
-use Rattle.wire_frames.specs.declared.ends.Outcome.{Outcome}
 use Rattle.wire_frames.specs.declared.ends.Reason.{Reason}
 use Rattle.wire_frames.specs.declared.ends.Reason.TheVariants as reasons
 use Rattle.conn_core.specs.Finds.{change_first, remove_first, weight_of}
 use Rattle.conn_core.specs.Rooms.{unasked}
-use Rattle.conn_core.specs.Steps.{Request, apply_frame, arrived, ask_lease, asked, asked_if, cancel, cancel_row, cancelled, collect, collect_row, counted, prepared, received, submit, table_or, take_send, when_open, with_cancelled, with_collected, with_frame, with_queued, with_queued_frame, with_reference, without_row}
+use Rattle.conn_core.specs.Steps.{Request, apply_frame, arrived, ask_lease, asked, asked_if, cancel, cancel_row, cancelled, collect, collect_row, prepared, received, submit, table_or, take_send, when_open, with_cancelled, with_collected, with_frame, with_queued, with_queued_frame, with_reference, without_row}
 use Rattle.conn_core.specs.Tables.{Table, at_moment, deadline_of, ended_row, is_queued, is_reference, is_row_of, is_sent, is_sent_with, sent_row}
 use Rattle.conn_core.specs.declared.answers.AskRefusal.TheVariants as asks
 use Rattle.conn_core.specs.declared.answers.FrameRefusal.TheVariants as frame_refusals
@@ -22,7 +21,7 @@ use Rattle.conn_core.specs.declared.rows.Phase.{Phase}
 use Rattle.conn_core.specs.declared.rows.Phase.TheVariants.{Queued, Sent, Ended}
 use Rattle.conn_core.specs.declared.rows.Row.{Row}
 use Rattle.conn_core.specs.declared.settings.Settings.{Settings}
-use Rattle.conn_core.proofs.FirstLemmas.{weight_change, weight_push, weight_remove}
+use Rattle.conn_core.proofs.FirstLemmas.{weight_push}
 use Rattle.conn_core.proofs.RoomLemmas.{lost_asks}
 
 -- every row's ask is one that passes

@@ -1,14 +1,12 @@
 -- How the program's lists follow the steps that end a row.
-use Rattle.std.proofs.Common.{◌≡◌, ℕ, ◌+◌, ◌<◌, ◌≤◌, Bool, true, false, List, [], ◌∷◌, ◌++◌, Option, Some, None, Result, Ok, Err, length, set, get_or, refl, sym, ap, ◌∙◌, arith, count_by, nat_lt}
+use Rattle.std.proofs.Common.{◌≡◌, ℕ, ◌<◌, ◌≤◌, Bool, true, List, [], ◌∷◌, ◌++◌, Some, None, Err, set, get_or, sym, ap, ◌∙◌, arith, count_by, nat_lt}
 use Rattle.std.specs.Prelude.{if◌then◌else◌}
 use Rattle.std.proofs.lemmas.Bool.Decides.{nat_tests}
 use Rattle.std.specs.List.{find}
-use Rattle.wire_frames.specs.declared.ends.Outcome.{Outcome}
-use Rattle.conn_core.specs.Finds.{IsFirstAt, change_first, remove_first, weight_of}
-use Rattle.conn_core.specs.Rooms.{entries_of, references_kept}
+use Rattle.conn_core.specs.Finds.{IsFirstAt, change_first, weight_of}
 use Rattle.conn_core.specs.Steps.{cancel, cancel_row, cancelled, table_or, take_send, when_open, with_cancelled, with_queued, with_queued_frame}
 use Rattle.conn_core.specs.Tables.{Table, ended_row, is_queued, is_row_of, is_sent, sent_row}
-use Rattle.conn_core.specs.declared.rows.Phase.TheVariants.{Queued, Sent, Ended}
+use Rattle.conn_core.specs.declared.rows.Phase.TheVariants.{Queued, Sent}
 use Rattle.conn_core.specs.declared.answers.SendRefusal.TheVariants as sends
 use Rattle.conn_core.specs.declared.answers.Sending.{Sending}
 use Rattle.conn_core.specs.declared.rows.Row.{Row}

@@ -1,21 +1,19 @@
 -- The table after each event has room for one entry more.
-use Rattle.std.proofs.Common.{◌≡◌, ℕ, suc, ◌+◌, ◌*◌, ◌<◌, ◌≤◌, Bool, true, false, cond, List, [], ◌∷◌, ◌++◌, Option, Some, None, length, refl, sym, ap, ◌∙◌, arith, length-append, nat_lt, max}
+use Rattle.std.proofs.Common.{◌≡◌, ℕ, suc, ◌+◌, ◌<◌, ◌≤◌, Bool, true, false, cond, List, [], ◌∷◌, Some, None, length, refl, ap, arith, length-append, nat_lt, max}
 use Rattle.std.specs.Prelude.{◌&&◌, ◌==◌}
 use Rattle.std.specs.List.{find}
 use Rattle.std.proofs.lemmas.Bool.Decides.{nat_tests}
 use Rattle.wire_frames.specs.declared.ends.Outcome.{Outcome}
-use Rattle.wire_frames.specs.declared.ends.Reason.{Reason}
 use Rattle.conn_core.specs.Finds.{change_first, remove_first, weight_of}
-use Rattle.conn_core.specs.Rooms.{Capacities, HasTurnRoom, IsRoomy, IsUnderWay, closes_of, entries_of, phase_entries, phase_references, references_kept, zero_reference, zero_row}
-use Rattle.conn_core.specs.Steps.{Request, asked, asked_if, closed_by, started}
-use Rattle.conn_core.specs.Tables.{Table, at_moment, deadline_of, ended_row, is_open, is_queued, is_reference, is_row_of, is_sent, is_sent_with, phase_ended, phase_sent, sent_row}
-use Rattle.conn_core.specs.declared.rows.Phase.{Phase}
-use Rattle.conn_core.specs.declared.rows.Phase.TheVariants.{Queued, Sent, Ended}
+use Rattle.conn_core.specs.Rooms.{Capacities, HasTurnRoom, IsRoomy, entries_of, phase_entries, phase_references, references_kept, zero_reference, zero_row}
+use Rattle.conn_core.specs.Steps.{Request, asked, asked_if, started}
+use Rattle.conn_core.specs.Tables.{Table, at_moment, deadline_of, ended_row, is_queued, sent_row}
+use Rattle.conn_core.specs.declared.rows.Phase.TheVariants.{Queued, Ended}
 use Rattle.conn_core.specs.declared.rows.Row.{Row}
 use Rattle.conn_core.specs.declared.settings.Settings.{Settings}
-use Rattle.conn_core.proofs.FirstLemmas.{found_passes, weight_change, weight_push, weight_remove}
+use Rattle.conn_core.proofs.FirstLemmas.{weight_change, weight_push, weight_remove}
 use Rattle.conn_core.proofs.RoomLemmas.{entries_of_rows}
-use Rattle.conn_core.proofs.StepRoom.{closed_room, closes_bound, opens}
+use Rattle.conn_core.proofs.StepRoom.{closes_bound, opens}
 use Rattle.conn_core.proofs.TurnLemmas.{and_left}
 
 pub length-change_first : {X : Type 0} (p : X → Bool) (f : X → X) (xs : List X) → length (change_first p f xs) ≡ length xs

@@ -1,16 +1,14 @@
 -- Where a step is taken, its entry can be written down.
-use Rattle.std.proofs.Common.{◌≡◌, ℕ, ◌+◌, ◌*◌, ◌<◌, ◌≤◌, Bool, true, false, cond, List, [], ◌∷◌, ◌++◌, Option, Some, None, Result, Ok, Err, length, refl, sym, ap, ◌∙◌, arith, length-append, nat_lt, count_by}
+use Rattle.std.proofs.Common.{◌≡◌, ℕ, ◌<◌, ◌≤◌, Bool, true, false, [], ◌∷◌, ◌++◌, Option, Some, None, Result, Ok, Err, length, refl, ap, arith, length-append, nat_lt, count_by}
 use Rattle.std.specs.Prelude.{if◌then◌else◌}
 use Rattle.std.specs.List.{find}
 use Rattle.std.proofs.lemmas.Bool.Decides.{nat_tests}
 use Rattle.wire_frames.specs.declared.ends.Outcome.{Outcome}
 use Rattle.wire_frames.specs.declared.ends.Reason.{Reason}
-use Rattle.conn_core.specs.Finds.{change_first, remove_first}
-use Rattle.conn_core.specs.Rooms.{CanTurn, Capacities, HasTurnRoom, IsRoomy, IsSettings, IsUnderWay, phase_entries, phase_references, zero_reference, zero_row}
+use Rattle.conn_core.specs.Rooms.{CanTurn, Capacities, HasTurnRoom, IsRoomy, IsUnderWay, phase_entries, phase_references, zero_reference, zero_row}
 use Rattle.conn_core.specs.Steps.{answer_of, ask_lease, asked, asked_if, cancel, cancel_row, cancelled, collect, collect_row, table_or, take_send, when_open, with_cancelled, with_collected, with_queued, with_queued_frame}
-use Rattle.conn_core.specs.Tables.{Table, at_moment, ended_row, is_open, is_queued, is_row_of, is_sent}
+use Rattle.conn_core.specs.Tables.{Table, at_moment, is_queued, is_row_of, is_sent}
 use Rattle.conn_core.specs.declared.answers.AskRefusal.TheVariants as asks
-use Rattle.conn_core.specs.declared.answers.CancelRefusal.{CancelRefusal}
 use Rattle.conn_core.specs.declared.answers.LeaseAnswer.{LeaseAnswer}
 use Rattle.conn_core.specs.declared.answers.SendRefusal.TheVariants as sends
 use Rattle.conn_core.specs.declared.answers.Sending.{Sending}

@@ -1,7 +1,7 @@
 -- The first item of a list that passes, by its place.
-use Rattle.std.proofs.Common.{◌≡◌, ℕ, zero, suc, ◌+◌, ◌<◌, ◌≤◌, Bool, true, false, cond, List, [], ◌∷◌, ◌++◌, length, take, drop, set, refl, sym, ap, ◌∙◌, subst, arith, add_assoc, add_comm, Option, Some, None, ltb, get_or}
+use Rattle.std.proofs.Common.{◌≡◌, ℕ, zero, suc, ◌+◌, ◌<◌, ◌≤◌, Bool, true, false, cond, List, [], ◌∷◌, ◌++◌, length, set, refl, sym, ap, ◌∙◌, arith, Option, Some, None, ltb, get_or}
 use Rattle.std.specs.Prelude.{not, MatchOption}
-use Rattle.std.specs.List.{find, position, position_or_len, prefix_len, slice_get, remove, list_any}
+use Rattle.std.specs.List.{find, position, position_or_len, slice_get, remove}
 use Rattle.std.proofs.Math.Numerals.{one-add}
 use Rattle.std.proofs.lemmas.List.Folds.{find_at}
 use Rattle.std.proofs.lemmas.Bool.Decides.{nat_tests}

@@ -1,15 +1,14 @@
 -- Where a frame is taken, its entry can be written down.
-use Rattle.std.proofs.Common.{◌≡◌, ℕ, ◌+◌, ◌*◌, ◌<◌, ◌≤◌, Bool, true, false, cond, List, [], ◌∷◌, ◌++◌, Option, Some, None, Result, Ok, Err, length, refl, sym, ap, ◌∙◌, arith, length-append}
+use Rattle.std.proofs.Common.{◌≡◌, ℕ, ◌+◌, ◌<◌, Bool, true, List, [], ◌∷◌, ◌++◌, Option, Some, None, Result, Ok, Err, refl, ap, ◌∙◌, arith, length-append}
 use Rattle.std.specs.List.{find}
 use Rattle.std.proofs.lemmas.Bool.Decides.{nat_tests}
 use Rattle.node_tree.specs.declared.readings.Reading.{Reading}
 use Rattle.wire_frames.specs.WireMeaning.{WireMeaning}
 use Rattle.wire_frames.specs.declared.ends.FrameWhy.{FrameWhy}
 use Rattle.wire_frames.specs.declared.ends.Reason.TheVariants as reasons
-use Rattle.conn_core.specs.Finds.{weight_of}
 use Rattle.conn_core.specs.Rooms.{CanTurn, Capacities, HasTurnRoom, IsRoomy, IsUnderWay, zero_reference, zero_row}
 use Rattle.conn_core.specs.Steps.{answer_of, apply_frame, arrived, counted, received, refused_frame, table_or, without_row}
-use Rattle.conn_core.specs.Tables.{Table, is_open, is_reference, is_sent_with}
+use Rattle.conn_core.specs.Tables.{Table, is_reference, is_sent_with}
 use Rattle.conn_core.specs.declared.answers.FrameAnswer.{FrameAnswer}
 use Rattle.conn_core.specs.declared.answers.FrameRefusal.TheVariants as frame_refusals
 use Rattle.conn_core.specs.declared.rows.Row.{Row}

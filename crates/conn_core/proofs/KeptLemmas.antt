@@ -1,5 +1,5 @@
 -- What a connection keeps, where its lists stay or a turn was written down.
-use Rattle.std.proofs.Common.{◌≡◌, ℕ, ◌+◌, ◌*◌, ◌<◌, ◌≤◌, Bool, true, false, List, [], ◌∷◌, ◌++◌, Option, Some, None, length, refl, sym, ap, ◌∙◌, subst, arith, length-append, vec_len}
+use Rattle.std.proofs.Common.{◌≡◌, ℕ, ◌+◌, ◌≤◌, length, sym, ap, ◌∙◌, subst, arith, length-append, vec_len}
 use Rattle.std.specs.Vec.{vec_capacity}
 use Rattle.std.specs.VecDeque.{deque_capacity}
 use Rattle.conn_core.specs.Journals.{settled, turn_of}
@@ -40,6 +40,6 @@ turned_kept s k m e turns a b c can =
     let all = moved s (n + length (turn_of s (n + 1) t e)) (vec_len m.journal) (capacities_of k) (capacities_of m) (settled s (n + 1) t) (lists_of m.table) len turn a b c left.0 left.1 in
     record { room = all.0; under_way = all.1 }
 
-pub can_on : (s : Settings) (n : ℕ) (room more : Capacities) (t u : Table) → t ≡ u → room.journal ≤ more.journal → room.free ≤ more.free → room.quarantined ≤ more.quarantined → CanTurn s n room t → CanTurn s n more u
+pub can_on : (s : Settings) (n : ℕ) (room more : Capacities) (t u : Table) → u ≡ t → room.journal ≤ more.journal → room.free ≤ more.free → room.quarantined ≤ more.quarantined → CanTurn s n room t → CanTurn s n more u
 can_on s n room more t u tables a b c can =
-    record { after = subst (λ v. IsRoomy s (n + 1) more v) tables (roomier s (n + 1) room more t a b c can.after); under_way = subst (λ v. IsUnderWay s n v) tables can.under_way }
+    record { after = subst (λ v. IsRoomy s (n + 1) more v) (sym tables) (roomier s (n + 1) room more t a b c can.after); under_way = subst (λ v. IsUnderWay s n v) (sym tables) can.under_way }

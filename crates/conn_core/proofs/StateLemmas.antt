@@ -1,5 +1,5 @@
 -- A turn that was written down leads from one state to the next.
-use Rattle.std.proofs.Common.{◌≡◌, ◌⊎◌, inl, inr, ℕ, ◌+◌, ◌<◌, ◌≤◌, ◌^◌, Bool, true, false, cond, List, [], ◌∷◌, ◌++◌, Option, Some, None, Result, Ok, Err, length, refl, sym, ap, ◌∙◌, subst, arith, append_assoc, length-append, vec_len}
+use Rattle.std.proofs.Common.{◌≡◌, ◌⊎◌, inl, inr, ℕ, ◌+◌, ◌≤◌, Bool, true, false, List, [], ◌∷◌, ◌++◌, Option, Some, None, Result, Ok, Err, length, refl, sym, ap, ◌∙◌, subst, arith}
 use Rattle.std.specs.Prelude.{IfOk, OnErr, OnOk}
 use Rattle.wire_frames.specs.declared.asks.Ask.{Ask}
 use Rattle.wire_frames.specs.declared.ends.Reason.{Reason}
@@ -8,7 +8,7 @@ use Rattle.conn_core.specs.Finds.{weight_of}
 use Rattle.conn_core.specs.Journals.{Legal, opened, turned, after_entries, after_entry, after_step, is_worn, settled, settled_if, table_of, turn_if, turn_of, wears, worn_entry}
 use Rattle.conn_core.specs.Rooms.{IsKept, IsSettings, Stays, Turns, TurnsAs, lists_of, unasked}
 use Rattle.conn_core.specs.States.{Grows, IsState, grown}
-use Rattle.conn_core.specs.Steps.{IsGiven, Started, accepted_of, answer_of, close, closed_by, started_answer, step, table_or, taken, when_open}
+use Rattle.conn_core.specs.Steps.{IsGiven, Started, accepted_of, answer_of, closed_by, started_answer, step, table_or, taken, when_open}
 use Rattle.conn_core.specs.Tables.{Connection, Table, is_open, opening}
 use Rattle.conn_core.specs.declared.answers.Accepted.{Accepted}
 use Rattle.conn_core.specs.declared.answers.SubmitRefusal.{SubmitRefusal}
@@ -17,7 +17,6 @@ use Rattle.conn_core.specs.declared.entries.Answer.{Answer}
 use Rattle.conn_core.specs.declared.entries.Answer.TheVariants as answers
 use Rattle.conn_core.specs.declared.entries.Entry.{Entry}
 use Rattle.conn_core.specs.declared.entries.Event.{Event}
-use Rattle.conn_core.specs.declared.entries.Event.TheVariants.{Close}
 use Rattle.conn_core.specs.declared.kept.Kept.{Kept}
 use Rattle.conn_core.specs.declared.settings.Settings.{Settings}
 use Rattle.conn_core.proofs.RoomLemmas.{lost_asks}
@@ -155,6 +154,6 @@ pub submitted_after : (c : Connection) (k m : Kept) (actor : ℕ) (event : Event
 submitted_after c k m actor event w (Ok a) state steps given turns stays = let result : Result Accepted SubmitRefusal = Ok a in inr (handed_journal c k m actor event w started_answer result state steps turns)
 submitted_after c k m actor event w (Err e) state steps given turns stays =
     elim given [
-      inl is ↦ inr (stays.journal ∙ sym (refused_submit c k.journal.items actor event w e _ (ap (λ t. step c t actor event) state.table ∙ steps) is))
-    | inr is ↦ inl is
+      | inl is ↦ inr (stays.journal ∙ sym (refused_submit c k.journal.items actor event w e _ (ap (λ t. step c t actor event) state.table ∙ steps) is))
+      | inr is ↦ inl is
     ]

@@ -1,24 +1,18 @@
 -- Each step leaves the room that it found, and so does the turn that writes it down.
-use Rattle.std.proofs.Common.{◌≡◌, ◌≢◌, ℕ, ◌+◌, ◌*◌, ◌<◌, ◌≤◌, Bool, true, false, cond, List, [], ◌∷◌, ◌++◌, Option, Some, None, Result, Ok, Err, length, refl, sym, ap, ◌∙◌, arith, length-append, nat_lt, eqb}
-use Rattle.std.specs.Prelude.{map, ◌&&◌, ◌==◌}
-use Rattle.std.specs.List.{find}
+use Rattle.std.proofs.Common.{◌≡◌, ◌≢◌, ℕ, ◌+◌, ◌≤◌, Bool, true, false, cond, None, length, refl, ap, ◌∙◌, arith, length-append}
+use Rattle.std.specs.Prelude.{◌&&◌, ◌==◌}
 use Rattle.std.proofs.lemmas.Bool.Decides.{nat_tests}
-use Rattle.wire_frames.specs.declared.ends.Outcome.{Outcome}
 use Rattle.wire_frames.specs.declared.ends.Reason.{Reason}
 use Rattle.wire_frames.specs.declared.ends.Reason.TheVariants as reasons
-use Rattle.conn_core.specs.Finds.{change_first, remove_first, weight_of}
+use Rattle.conn_core.specs.Finds.{weight_of}
 use Rattle.conn_core.specs.Journals.{settled_if, turn_if, turn_of, settled, wears}
-use Rattle.conn_core.specs.Rooms.{Capacities, IsRoomy, IsUnderWay, closes_of, entries_of, needs_of, phase_entries, phase_references, references_kept, zero_reference, zero_row}
-use Rattle.conn_core.specs.Steps.{Request, asked, closed_by, started}
-use Rattle.conn_core.specs.Tables.{Table, at_moment, ended_row, is_open, is_queued, is_reference, is_row_of, is_sent, is_sent_with, lost_row, phase_sent, references_of, sent_row}
+use Rattle.conn_core.specs.Rooms.{Capacities, IsRoomy, IsUnderWay, closes_of, entries_of, zero_reference}
+use Rattle.conn_core.specs.Steps.{closed_by}
+use Rattle.conn_core.specs.Tables.{Table, is_open, is_queued, is_sent, lost_row, references_of}
 use Rattle.conn_core.specs.declared.entries.Entry.{Entry}
-use Rattle.conn_core.specs.declared.rows.Phase.{Phase}
-use Rattle.conn_core.specs.declared.rows.Phase.TheVariants.{Queued, Sent, Ended}
-use Rattle.conn_core.specs.declared.rows.Row.{Row}
 use Rattle.conn_core.specs.declared.settings.Settings.{Settings}
-use Rattle.conn_core.proofs.FirstLemmas.{found_passes, weight_change, weight_push, weight_remove}
 use Rattle.conn_core.proofs.RoomLemmas.{entries_of_rows, length-map_rows, lost_entries, lost_references, lost_zeros, references_given_up, weight_join, zero_references}
-use Rattle.conn_core.proofs.TurnLemmas.{and_left, and_right, closes_where_worn, open_where_worn}
+use Rattle.conn_core.proofs.TurnLemmas.{and_left, closes_where_worn}
 
 pub closes_bound : (t : Table) → closes_of t ≤ 1
 closes_bound t = elim (is_open t) as (λ b. cond b 1 0 ≤ 1) [ true ↦ omega arith | false ↦ omega arith ]

@@ -1,5 +1,5 @@
 -- The first item of a list that passes a test.
-use Rattle.std.specs.Prelude.{◌≡◌, ℕ, ◌+◌, ◌<◌, Bool, true, cond, List, [], ◌∷◌, Option, Some, length, remove, slice_index_or, slice_set}
+use Rattle.std.specs.Prelude.{◌≡◌, ℕ, ◌+◌, ◌<◌, Bool, true, cond, List, [], ◌∷◌, Some, length, remove, slice_index_or, slice_set}
 use Rattle.std.specs.List.{find}
 
 -- the list with that item changed

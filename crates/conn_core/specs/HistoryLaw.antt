@@ -11,7 +11,6 @@ use Rattle.conn_core.specs.Tables.{Connection}
 use Rattle.conn_core.specs.declared.entries.Answer.{Answer}
 use Rattle.conn_core.specs.declared.entries.Answer.TheVariants as answers
 use Rattle.conn_core.specs.declared.entries.Entry.{Entry}
-use Rattle.conn_core.specs.declared.entries.Event.{Event}
 use Rattle.conn_core.specs.declared.entries.Event.TheVariants as events
 
 -- a request has no end in the journal

@@ -1,6 +1,5 @@
 -- Journals: what a connection went through, entry by entry.
 use Rattle.std.specs.Prelude.{◌≡◌, ℕ, ◌+◌, Bool, true, false, ◌&&◌, ◌==◌, List, [], ◌∷◌, ◌++◌, length, Option, Some, None}
-use Rattle.wire_frames.specs.declared.ends.Reason.{Reason}
 use Rattle.wire_frames.specs.declared.ends.Reason.TheVariants as reasons
 use Rattle.conn_core.specs.Steps.{closed_by, step}
 use Rattle.conn_core.specs.Tables.{Connection, Table, is_open, opening}

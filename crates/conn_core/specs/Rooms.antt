@@ -1,5 +1,5 @@
 -- Room: what the rows, leases and references that stand can still cause never wants memory.
-use Rattle.std.specs.Prelude.{◌≡◌, ℕ, ◌+◌, ◌*◌, ◌≤◌, ◌<◌, ◌^◌, ◌==◌, ◌++◌, true, false, if◌then◌else◌, List, length, Option, Some, None, Result, Ok, Err, Bool, vec_len}
+use Rattle.std.specs.Prelude.{◌≡◌, ℕ, ◌+◌, ◌*◌, ◌≤◌, ◌<◌, ◌^◌, ◌==◌, ◌++◌, true, false, if◌then◌else◌, List, length, Result, Ok, Err, Bool, vec_len}
 use Rattle.std.specs.Vec.{vec_capacity}
 use Rattle.std.specs.VecDeque.{deque_capacity}
 use Rattle.wire_frames.specs.declared.asks.Ask.{Ask}

@@ -1,6 +1,6 @@
 -- What each event does to a table, or why it is refused. The tests stand in the order in which they are made.
 use Rattle.std.specs.Prelude.{◌≡◌, ◌⊎◌, ℕ, ◌+◌, max, Bool, true, false, ◌&&◌, ◌==◌, nat_lt, if◌then◌else◌, List, [], ◌∷◌, ◌++◌, length, map, Option, Some, None, Result, Ok, Err, count_by}
-use Rattle.std.specs.List.{find, list_any}
+use Rattle.std.specs.List.{find}
 use Rattle.wire_frames.specs.WireMeaning.{WireMeaning, Refused}
 use Rattle.wire_frames.specs.declared.asks.Ask.{Ask}
 use Rattle.wire_frames.specs.declared.ends.EndKind.TheVariants as kinds

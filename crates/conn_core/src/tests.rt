@@ -81,6 +81,11 @@ fn play<W: Wire>(
     }
 }
 
+/// Takes what may go to another thread.
+fn across<T: Send>(value: T) -> T {
+    value
+}
+
 /// Runs a script over so many references, after a lease was asked, and counts the entries.
 fn run(
     rt: &impl Abort,
@@ -97,7 +102,7 @@ fn run(
         lease_ms: 60000,
         wait_ms: 60000,
     };
-    let mut state = ConnState::new(alloc, RawWire, settings)?;
+    let mut state = across(ConnState::new(alloc, RawWire, settings)?);
     let granted: Result<LeaseAnswer, AskRefusal> = Ok(LeaseAnswer::Granted { lease: 1 });
     assert_eq!(rt; state.ask_lease(1, 0), granted);
     for (line, said) in lines {
@@ -105,7 +110,7 @@ fn run(
     }
     assert_eq!(rt; state.closed(), None);
     assert_eq!(rt; state.journal().len(), entries);
-    assert_eq!(rt; state.into_journal().len(), entries);
+    assert_eq!(rt; across(state.into_journal()).len(), entries);
     Ok(())
 }
 

@@ -1,18 +1,15 @@
 -- The raw wire: a frame is its length, a reference and a payload, the first two of 16 bits.
-use Rattle.std.specs.Prelude.{◌≡◌, ℕ, ◌+◌, ◌*◌, Bool, true, false, ◌&&◌, nat_lt, nat_le, ◌==◌, if◌then◌else◌, List, [], ◌∷◌, ◌++◌, length, map, drop, slice_index, pos, Result, Ok, Err}
+use Rattle.std.specs.Prelude.{ℕ, ◌+◌, ◌*◌, Bool, false, ◌&&◌, nat_lt, nat_le, ◌==◌, if◌then◌else◌, List, [], ◌∷◌, ◌++◌, length, map, drop, slice_index, pos, Ok, Err}
 use Rattle.std.specs.Int.{w16, to_be_bytes, from_be_bytes}
 use Rattle.node_tree.specs.declared.nodes.Node.{Node}
 use Rattle.node_tree.specs.declared.nodes.Node.TheVariants.{Blob}
 use Rattle.node_tree.specs.declared.readings.Reading.{Reading}
-use Rattle.node_tree.specs.declared.readings.Span.{Span}
-use Rattle.wire_frames.specs.WireMeaning.{WireMeaning, Refused}
+use Rattle.wire_frames.specs.WireMeaning.{WireMeaning}
 use Rattle.wire_frames.specs.declared.asks.Ask.{Ask}
 use Rattle.wire_frames.specs.declared.asks.Ask.TheVariants as asks
 use Rattle.wire_frames.specs.declared.ends.EndKind.TheVariants.{Done, Remote, Mismatch}
-use Rattle.wire_frames.specs.declared.ends.FrameWhy.{FrameWhy}
 use Rattle.wire_frames.specs.declared.ends.FrameWhy.TheVariants.{Length}
 use Rattle.wire_frames.specs.declared.ends.Outcome.{Outcome}
-use Rattle.wire_frames.specs.declared.kinds.PlcValue.{PlcValue}
 use Rattle.wire_frames.specs.declared.kinds.PlcValue.TheVariants.{Whole}
 use Rattle.wire_frames.specs.declared.wires.LengthRule.TheVariants as rules
 

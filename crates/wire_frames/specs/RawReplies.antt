@@ -1,5 +1,5 @@
 -- Whatever a raw frame holds, it is a reply.
-use Rattle.std.specs.Prelude.{ℕ, Bool, true, false, if◌then◌else◌, ◌==◌, List, [], ◌∷◌, refl}
+use Rattle.std.specs.Prelude.{ℕ, true, false, if◌then◌else◌, ◌==◌, List, [], ◌∷◌, refl}
 use Rattle.wire_frames.specs.RawFrames.{done_bytes, payload_fit}
 use Rattle.wire_frames.specs.WireMeaning.{IsReplyKind}
 use Rattle.wire_frames.specs.declared.ends.EndKind.TheVariants.{Remote}

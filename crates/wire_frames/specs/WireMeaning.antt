@@ -1,6 +1,5 @@
 -- What a wire is, as functions.
-use Rattle.std.specs.Prelude.{◌≡◌, ℕ, Bool, List, [], ◌∷◌, ◌⊎◌, Result, Ok, Err}
-use Rattle.std.specs.Borrow.{Bor}
+use Rattle.std.specs.Prelude.{◌≡◌, ℕ, Bool, List, [], Result, Ok, Err}
 use Rattle.node_tree.specs.declared.faults.WriteWhy.{WriteWhy}
 use Rattle.node_tree.specs.declared.readings.Reading.{Reading}
 use Rattle.wire_frames.specs.declared.asks.Ask.{Ask}

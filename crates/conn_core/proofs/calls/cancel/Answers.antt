@@ -1,6 +1,6 @@
-use Rattle.std.proofs.Common.{◌≡◌, ap, ◌∙◌, rules, arith, sym, Ok, Err, vec_len, refl}
+use Rattle.std.proofs.Common.{◌∙◌, rules, sym, vec_len, refl}
 use Rattle.conn_core.specs.Rooms.{capacities_of, lists_of}
-use Rattle.conn_core.specs.Steps.{answer_of, cancel, table_or}
+use Rattle.conn_core.specs.Steps.{cancel, table_or}
 use Rattle.conn_core.proofs.EventTurns.{refused_stays, cancel_turns}
 use Rattle.conn_core.proofs.KeptLemmas.{can_on, same_kept}
 use Rattle.conn_core.proofs.calls.cancel.Goals as goal
@@ -19,4 +19,4 @@ write_down-requires c =
     let n = vec_len c.args.kept.now.journal in
     let room = capacities_of c.args.kept.now in
     let can = cancel_turns s n room t c.args.actor c.args.id (sym c.in_ok-cancel_row.was ∙ c.cancel_row.ensures.answer) c.requires.room c.requires.under_way in
-    can_on s n room _ (table_or t (cancel t c.args.actor c.args.id)) (lists_of c.cancel_row.new.table) (sym c.cancel_row.ensures.table) (search rules) (search rules) (search rules) can
+    can_on s n room _ (table_or t (cancel t c.args.actor c.args.id)) (lists_of c.cancel_row.new.table) c.cancel_row.ensures.table (search rules) (search rules) (search rules) can

@@ -1,6 +1,6 @@
-use Rattle.std.proofs.Common.{◌≡◌, ap, ◌∙◌, rules, arith, sym, Ok, Err, vec_len, refl}
+use Rattle.std.proofs.Common.{◌∙◌, rules, sym, vec_len, refl}
 use Rattle.conn_core.specs.Rooms.{capacities_of, lists_of}
-use Rattle.conn_core.specs.Steps.{answer_of, collect, table_or}
+use Rattle.conn_core.specs.Steps.{collect, table_or}
 use Rattle.conn_core.proofs.EventTurns.{refused_stays, collect_turns}
 use Rattle.conn_core.proofs.KeptLemmas.{can_on, same_kept}
 use Rattle.conn_core.proofs.calls.collect.Goals as goal
@@ -19,4 +19,4 @@ write_down-requires c =
     let n = vec_len c.args.kept.now.journal in
     let room = capacities_of c.args.kept.now in
     let can = collect_turns s n room t c.args.actor c.args.id c.in_ok-outcome.outcome (sym c.in_ok-outcome.was ∙ c.collect_row.ensures.answer) c.requires.room c.requires.under_way in
-    can_on s n room _ (table_or t (collect t c.args.actor c.args.id)) (lists_of c.collect_row.new.table) (sym c.collect_row.ensures.table) (search rules) (search rules) (search rules) can
+    can_on s n room _ (table_or t (collect t c.args.actor c.args.id)) (lists_of c.collect_row.new.table) c.collect_row.ensures.table (search rules) (search rules) (search rules) can

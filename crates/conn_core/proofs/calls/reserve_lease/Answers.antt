@@ -1,6 +1,5 @@
-use Rattle.std.proofs.Common.{◌≡◌, ap, ◌∙◌, rules, arith}
+use Rattle.std.proofs.Common.{ap, ◌∙◌, rules}
 use Rattle.conn_core.specs.Rooms.{lists_of}
-use Rattle.conn_core.specs.Tables.{Table}
 use Rattle.conn_core.proofs.KeptLemmas.{same_kept}
 use Rattle.conn_core.proofs.calls.reserve_lease.Goals as goal
 

@@ -1,6 +1,6 @@
-use Rattle.std.proofs.Common.{◌≡◌, ap, ◌∙◌, rules, arith, sym, Ok, Err, vec_len, refl}
+use Rattle.std.proofs.Common.{◌∙◌, rules, sym, vec_len, refl}
 use Rattle.conn_core.specs.Rooms.{capacities_of, lists_of}
-use Rattle.conn_core.specs.Steps.{answer_of, take_send, table_or}
+use Rattle.conn_core.specs.Steps.{take_send, table_or}
 use Rattle.conn_core.proofs.EventTurns.{refused_stays, send_turns}
 use Rattle.conn_core.proofs.KeptLemmas.{can_on, same_kept}
 use Rattle.conn_core.proofs.calls.take_send.Goals as goal
@@ -19,4 +19,4 @@ write_down-requires c =
     let n = vec_len c.args.kept.now.journal in
     let room = capacities_of c.args.kept.now in
     let can = send_turns s n room t c.in_ok-sending.sending (sym c.in_ok-sending.was ∙ c.send.ensures.answer) c.requires.room c.requires.under_way in
-    can_on s n room _ (table_or t (take_send s t)) (lists_of c.send.new.table) (sym c.send.ensures.table) (search rules) (search rules) (search rules) can
+    can_on s n room _ (table_or t (take_send s t)) (lists_of c.send.new.table) c.send.ensures.table (search rules) (search rules) (search rules) can

@@ -1,5 +1,4 @@
-use Rattle.std.proofs.Common.{◌≡◌, ℕ, suc, ◌+◌, ◌<◌, ◌++◌, ◌∷◌, [], map, rules, arith, add-one, take, drop, set, get_or, length, sym, ap, ◌∙◌, subst, vec_len}
-use Rattle.conn_core.specs.Finds.{weight_of}
+use Rattle.std.proofs.Common.{◌≡◌, suc, ◌<◌, ◌∷◌, [], arith, add-one, take, set, length, ap, ◌∙◌}
 use Rattle.conn_core.specs.Rooms.{references_kept}
 use Rattle.conn_core.specs.Tables.{is_queued, is_sent, lost_row, references_of}
 use Rattle.conn_core.proofs.FrontLemmas.{all_changed, changed_front, item_stands, joined, one_more_changed, references_more, weight_left}

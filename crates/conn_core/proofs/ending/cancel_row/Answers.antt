@@ -1,9 +1,7 @@
-use Rattle.std.proofs.Common.{◌≡◌, ℕ, ◌+◌, ◌≤◌, List, arith, get_or, sym, ap, subst}
+use Rattle.std.proofs.Common.{◌≡◌, ◌≤◌, arith, sym, ap, subst}
 use Rattle.conn_core.specs.Finds.{IsFirstAt, weight_of}
 use Rattle.conn_core.specs.Rooms.{lists_of, phase_references, references_kept}
-use Rattle.conn_core.specs.Steps.{cancelled}
 use Rattle.conn_core.specs.Tables.{ended_row, is_row_of}
-use Rattle.conn_core.specs.declared.rows.Row.{Row}
 use Rattle.conn_core.proofs.EndLemmas.{cancels_queued, cancels_sent, weight_found}
 use Rattle.conn_core.proofs.ending.cancel_row.Goals as goal
 

@@ -1,4 +1,4 @@
-use Rattle.conn_core.specs.Tables.{is_queued, is_reference, is_row_of, is_sent_with}
+use Rattle.conn_core.specs.Tables.{is_row_of}
 use Rattle.conn_core.proofs.FirstLemmas.{places}
 use Rattle.conn_core.proofs.finding.place_of.Goals as goal
 

@@ -1,4 +1,4 @@
-use Rattle.std.proofs.Common.{◌≡◌, ap, ◌∙◌, rules, sym, Ok, vec_len, refl}
+use Rattle.std.proofs.Common.{rules, vec_len, refl}
 use Rattle.conn_core.specs.Rooms.{capacities_of, lists_of}
 use Rattle.conn_core.specs.Steps.{answer_of, apply_frame, table_or}
 use Rattle.conn_core.specs.declared.answers.FrameRefusal.TheVariants as refusals
@@ -23,4 +23,4 @@ write_down-requires g c =
     let bytes = c.as_slice.result.now in
     let given = given_ok refusals.NoMemory c.in_ok-answer.answer (answer_of (apply_frame wire t bytes)) c.in_ok-answer.ensures.answer in
     let can = frame_turns wire s n room t bytes c.in_ok-answer.answer given c.in_ok-reserve_frame.ensures.turn kept.room kept.under_way in
-    can_on s n room _ (table_or t (apply_frame wire t bytes)) (lists_of c.receive.new.table) (sym c.in_ok-answer.ensures.table) (search rules) (search rules) (search rules) can
+    can_on s n room _ (table_or t (apply_frame wire t bytes)) (lists_of c.receive.new.table) c.in_ok-answer.ensures.table (search rules) (search rules) (search rules) can

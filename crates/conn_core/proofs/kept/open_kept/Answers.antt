@@ -1,5 +1,4 @@
-use Rattle.std.proofs.Common.{◌≡◌, rules, arith}
-use Rattle.conn_core.specs.Rooms.{lists_of}
+use Rattle.std.proofs.Common.{rules}
 use Rattle.conn_core.proofs.OpeningLemmas.{opened_kept, opening_is}
 use Rattle.conn_core.proofs.kept.open_kept.Goals as goal
 

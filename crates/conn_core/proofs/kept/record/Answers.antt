@@ -1,7 +1,7 @@
-use Rattle.std.proofs.Common.{◌≡◌, ℕ, ◌+◌, ◌++◌, ◌∷◌, [], Bool, true, false, arith, append_assoc, length, sym, ap, ◌∙◌}
+use Rattle.std.proofs.Common.{◌≡◌, ◌+◌, ◌++◌, true, false, arith, length, sym, ap, ◌∙◌}
 use Rattle.conn_core.specs.Journals.{settled_if, turn_if, wears}
 use Rattle.conn_core.specs.Rooms.{closes_of, lists_of}
-use Rattle.conn_core.proofs.TurnLemmas.{closes_where_worn}
+use Rattle.conn_core.proofs.TurnLemmas.{closes_where_worn, worn_written}
 use Rattle.conn_core.proofs.kept.record.Goals as goal
 
 pub add-requires-then-full : goal.add-requires-then-full
@@ -17,11 +17,7 @@ returns-then-full-clause-journal c =
     let ok = c.args.journal.now.ok.0 in
     let len : c.len.result + 1 ≡ length old + 1 = omega arith in
     let worn : wears s (length old + 1) t ≡ true = sym (ap (λ n. wears s n t) len) ∙ sym c.check_wears-full.ensures ∙ c.if-full.true in
-    c.add-then-full.ensures.items
-    ∙ ap (λ items. items ++ c.make_worn.result ∷ []) c.add.ensures.items
-    ∙ ap (λ w. (old ++ c.args.entry ∷ []) ++ w ∷ []) c.make_worn.ensures
-    ∙ append_assoc old (c.args.entry ∷ []) _
-    ∙ sym (ap (λ b. old ++ turn_if b c.args.entry) worn)
+    worn_written s (length old + 1) t c.args.entry c.make_worn.result old c.add.new.items.items c.add-then-full.new.items.items c.add-then-full.ensures.items c.add.ensures.items c.make_worn.ensures worn
 
 pub returns-then-full-clause-table : goal.returns-then-full-clause-table
 returns-then-full-clause-table c =

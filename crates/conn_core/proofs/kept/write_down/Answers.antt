@@ -1,4 +1,3 @@
-use Rattle.std.proofs.Common.{rules}
 use Rattle.conn_core.proofs.KeptLemmas.{turned_kept}
 use Rattle.conn_core.proofs.kept.write_down.Goals as goal
 

@@ -1,5 +1,5 @@
-use Rattle.std.proofs.Common.{◌≡◌, ◌≤◌, ap, ◌∙◌, rules, arith, sym, refl, subst}
-use Rattle.conn_core.specs.Finds.{IsFirstAt, weight_of}
+use Rattle.std.proofs.Common.{arith, sym, subst}
+use Rattle.conn_core.specs.Finds.{IsFirstAt}
 use Rattle.conn_core.specs.Rooms.{lists_of, references_kept}
 use Rattle.conn_core.specs.Tables.{is_sent_with}
 use Rattle.conn_core.proofs.EndLemmas.{weight_found}

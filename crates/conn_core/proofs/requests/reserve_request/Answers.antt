@@ -1,4 +1,4 @@
-use Rattle.std.proofs.Common.{◌≡◌, ap, ◌∙◌, rules}
+use Rattle.std.proofs.Common.{ap, ◌∙◌, rules}
 use Rattle.conn_core.specs.Rooms.{lists_of}
 use Rattle.conn_core.proofs.KeptLemmas.{same_kept}
 use Rattle.conn_core.proofs.requests.reserve_request.Goals as goal

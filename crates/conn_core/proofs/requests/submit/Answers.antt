@@ -1,7 +1,7 @@
-use Rattle.std.proofs.Common.{◌≡◌, ap, ◌∙◌, rules, arith, sym, Ok, Err, vec_len, refl, subst}
+use Rattle.std.proofs.Common.{◌∙◌, rules, sym, vec_len, refl}
 use Rattle.conn_core.specs.Requests.{request_of}
 use Rattle.conn_core.specs.Rooms.{capacities_of, lists_of}
-use Rattle.conn_core.specs.Steps.{accepted_of, answer_of, prepared, table_or, with_reference}
+use Rattle.conn_core.specs.Steps.{prepared, table_or, with_reference}
 use Rattle.conn_core.specs.declared.answers.SubmitRefusal.TheVariants as submits
 use Rattle.conn_core.proofs.KeptLemmas.{can_on, same_kept}
 use Rattle.conn_core.proofs.SubmitTurns.{given_ok, prepared_ok, start_refused, start_turns}
@@ -29,4 +29,4 @@ write_down-requires g c =
     let kept = c.in_ok-reserve_request.ensures.kept in
     let found = prepared_ok wire t q c.in_ok-frame.frame (given_ok submits.NoMemory c.in_ok-frame.frame (prepared wire t q) c.in_ok-frame.ensures) in
     let can = start_turns s n room t q sent c.in_ok-id.field-0 (sym c.in_ok-id.was ∙ c.start.ensures.answer) found.0 found.1 c.in_ok-reserve_request.ensures.turn kept.room kept.under_way in
-    can_on s n room _ (table_or t (with_reference t q sent t.free)) (lists_of c.start.new.table) (sym c.start.ensures.table) (search rules) (search rules) (search rules) can
+    can_on s n room _ (table_or t (with_reference t q sent t.free)) (lists_of c.start.new.table) c.start.ensures.table (search rules) (search rules) (search rules) can

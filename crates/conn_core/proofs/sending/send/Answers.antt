@@ -1,4 +1,4 @@
-use Rattle.std.proofs.Common.{◌≡◌, ℕ, ◌<◌, count_by, rules, arith, get_or, sym, ap, ◌∙◌, subst, None}
+use Rattle.std.proofs.Common.{◌≡◌, ◌<◌, count_by, rules, arith, ap, subst, None}
 use Rattle.conn_core.specs.Finds.{IsFirstAt}
 use Rattle.conn_core.specs.Rooms.{lists_of}
 use Rattle.conn_core.specs.Tables.{is_queued, is_sent}

@@ -1,11 +1,10 @@
-use Rattle.std.proofs.Common.{◌≡◌, refl, arith, sym, subst, IsTrue}
-use Rattle.std.specs.Prelude.{OnOk}
+use Rattle.std.proofs.Common.{refl, arith, subst}
 use Rattle.conn_core.specs.Rooms.{lists_of}
-use Rattle.conn_core.specs.States.{Grows, State, connection_of, journal_after}
+use Rattle.conn_core.specs.States.{Grows, State, connection_of}
 use Rattle.conn_core.specs.Steps.{apply_frame, frame_answer}
 use Rattle.conn_core.specs.declared.entries.Event.TheVariants as events
 use Rattle.conn_core.proofs.AskLemmas.{frame_carries}
-use Rattle.conn_core.proofs.StateLemmas.{handed_grows, handed_journal, handed_state}
+use Rattle.conn_core.proofs.StateLemmas.{handed_grows, handed_state}
 use Rattle.conn_core.proofs.conn.ConnState.apply_frame.Goals as goal
 
 pub invariant_of-self : goal.invariant_of-self

@@ -30,7 +30,7 @@ returns-clause-state g c =
     let event = events.Submit c.args.lease c.args.ask c.args.timeout_ms c.args.now in
     let after = submitted_after connection k c.submit.new.kept c.args.actor event (submit connection.wire t (record { actor = c.args.actor; lease = c.args.lease; ask = c.args.ask; timeout = c.args.timeout_ms; moment = c.args.now })) c.submit.result c.self.invariant refl called.answer called.turned called.stays in
     subst (λ (v : State _). (c.submit.result ≡ Err refusals.NoMemory) ⊎ (record { key = key; journal = c.submit.new.kept.journal.items } ≡ state_after g.W.Wire.meaning v c.args.actor event)) c.self.view_is
-      (elim after [ inl is ↦ inl is | inr is ↦ inr (ap (λ j. record { key = key; journal = j }) is) ])
+    (elim after [ inl is ↦ inl is | inr is ↦ inr (ap (λ j. record { key = key; journal = j }) is) ])
 
 pub returns-clause-grows : goal.returns-clause-grows
 returns-clause-grows g c =
