@@ -1,0 +1,15 @@
+pub mod AskLemmas
+pub mod EndLemmas
+pub mod EventRoom
+pub mod EventTurns
+pub mod FirstLemmas
+pub mod FrameLemmas
+pub mod FrameTurns
+pub mod FrontLemmas
+pub mod KeptLemmas
+pub mod OpeningLemmas
+pub mod RoomLemmas
+pub mod StateLemmas
+pub mod StepRoom
+pub mod SubmitTurns
+pub mod TurnLemmas

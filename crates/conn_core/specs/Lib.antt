@@ -1,0 +1,10 @@
+pub mod Ends
+pub mod Finds
+pub mod HistoryLaw
+pub mod Journals
+pub mod LeaseLists
+pub mod Requests
+pub mod Rooms
+pub mod States
+pub mod Steps
+pub mod Tables

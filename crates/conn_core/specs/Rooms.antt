@@ -1,0 +1,132 @@
+-- Room: what the rows, leases and references that stand can still cause never wants memory.
+use Rattle.std.specs.Prelude.{◌≡◌, ℕ, ◌+◌, ◌*◌, ◌≤◌, ◌<◌, ◌^◌, ◌==◌, ◌++◌, true, false, if◌then◌else◌, List, length, Result, Ok, Err, Bool, vec_len}
+use Rattle.std.specs.Vec.{vec_capacity}
+use Rattle.std.specs.VecDeque.{deque_capacity}
+use Rattle.wire_frames.specs.declared.asks.Ask.{Ask}
+use Rattle.conn_core.specs.Finds.{weight_of}
+use Rattle.conn_core.specs.Journals.{settled, turn_of}
+use Rattle.conn_core.specs.Tables.{Table as Lists, is_open}
+use Rattle.conn_core.specs.declared.entries.Entry.{Entry}
+use Rattle.conn_core.specs.declared.kept.Kept.{Kept}
+use Rattle.conn_core.specs.declared.rows.Phase.{Phase}
+use Rattle.conn_core.specs.declared.rows.Phase.TheVariants.{Queued, Sent, Ended}
+use Rattle.conn_core.specs.declared.rows.Row.{Row}
+use Rattle.conn_core.specs.declared.settings.Settings.{Settings}
+use Rattle.conn_core.specs.declared.tables.Table.{Table}
+
+-- the lists of a table as the program keeps it
+abbrev pub lists_of : Table → Lists
+lists_of t = record {
+  rows = t.rows.items;
+  free = t.free.items;
+  quarantined = t.quarantined.items;
+  held = t.held.items;
+  waiting = t.waiting.items;
+  clock = t.clock;
+  closed = t.closed;
+  leases = t.leases;
+  requests = t.requests;
+  frames = t.frames;
+}
+
+-- how many entries a row can still cause without taking memory: it is sent, it ends, it is collected
+abbrev pub phase_entries : Phase → ℕ
+phase_entries (Queued frame) = 3
+phase_entries Sent = 2
+phase_entries (Ended outcome) = 1
+
+abbrev pub entries_of : Row → ℕ
+entries_of row = phase_entries row.phase
+
+-- a row that hasn't ended keeps its reference from the others
+abbrev pub phase_references : Phase → ℕ
+phase_references (Queued frame) = 1
+phase_references Sent = 1
+phase_references (Ended outcome) = 0
+
+abbrev pub references_kept : Row → ℕ
+references_kept row = phase_references row.phase
+
+-- an open table can be closed once
+abbrev pub closes_of : Lists → ℕ
+closes_of t = if is_open t then 1 else 0
+
+-- a lease that is held can go, a waiter can be granted and then go
+abbrev pub needs_of : Lists → ℕ
+needs_of t = weight_of entries_of t.rows + length t.held + 2 * length t.waiting + closes_of t
+
+-- the settings that a connection may have
+pub record IsSettings (s : Settings) : Type 0 where
+  pub references : (1 ≤ s.references) × (s.references < 2 ^ 16)
+  pub window : (1 ≤ s.window) × (s.window ≤ 64)
+  pub share : (1 ≤ s.share) × (s.share ≤ 64)
+  pub journal : (64 ≤ s.journal) × (s.journal ≤ 262144)
+  pub lease_ms : (1 ≤ s.lease_ms) × (s.lease_ms ≤ 86400000)
+  pub wait_ms : (1 ≤ s.wait_ms) × (s.wait_ms ≤ 86400000)
+
+-- the capacities of the lists that grow without taking memory
+pub record Capacities : Type 0 where
+  pub journal : ℕ
+  pub free : ℕ
+  pub quarantined : ℕ
+
+abbrev pub capacities_of : Kept → Capacities
+capacities_of k = record { journal = vec_capacity k.journal; free = deque_capacity k.table.free; quarantined = vec_capacity k.table.quarantined }
+
+-- a reference is a number above 0
+abbrev pub zero_reference : ℕ → ℕ
+zero_reference reference = if reference == 0 then 1 else 0
+
+abbrev pub zero_row : Row → ℕ
+zero_row row = zero_reference row.reference
+
+-- a table with so many entries behind it, in lists of these capacities
+pub record IsRoomy (s : Settings) (entries : ℕ) (room : Capacities) (t : Lists) : Type 0 where
+  pub journal : entries + needs_of t ≤ room.journal
+  pub references : length t.free + length t.quarantined + weight_of references_kept t.rows ≤ s.references
+  pub free : s.references ≤ room.free
+  pub quarantined : s.references ≤ room.quarantined
+  pub rows : length t.rows ≤ 1024
+  pub held : length t.held ≤ 64
+  pub waiting : length t.waiting ≤ 64
+  pub at_end : is_open t ≡ false → entries + weight_of entries_of t.rows ≤ s.journal + 4000
+  pub leases : t.leases ≤ entries
+  pub requests : t.requests ≤ entries
+  pub frames : t.frames ≤ entries
+  pub zeros : weight_of zero_reference t.free + weight_of zero_reference t.quarantined + weight_of zero_row t.rows ≡ 0
+
+-- an open table has fewer entries behind it than the journal's limit
+abbrev pub IsUnderWay : Settings → ℕ → Lists → Type 0
+IsUnderWay s entries t = is_open t ≡ true → entries < s.journal
+
+pub record IsKept (s : Settings) (k : Kept) : Type 0 where
+  pub room : IsRoomy s (vec_len k.journal) (capacities_of k) (lists_of k.table)
+  pub under_way : IsUnderWay s (vec_len k.journal) (lists_of k.table)
+
+-- one entry more can be written down
+pub record CanTurn (s : Settings) (entries : ℕ) (room : Capacities) (t : Lists) : Type 0 where
+  pub after : IsRoomy s (entries + 1) room t
+  pub under_way : IsUnderWay s entries t
+
+-- room for all that an asked lease, a request or a frame can cause
+abbrev pub HasTurnRoom : ℕ → Capacities → Lists → Type 0
+HasTurnRoom entries room t = entries + 3 * length t.rows + length t.held + 2 * length t.waiting + 6 ≤ room.journal
+
+-- a turn was written down: the entry, with the close by a full journal behind it where it must follow
+pub record Turns (s : Settings) (old : List Entry) (t : Lists) (e : Entry) (new : List Entry) (u : Lists) : Type 0 where
+  pub journal : new ≡ old ++ turn_of s (length old + 1) t e
+  pub table : u ≡ settled s (length old + 1) t
+
+-- nothing was written down
+pub record Stays (old : List Entry) (t : Lists) (new : List Entry) (u : Lists) : Type 0 where
+  pub journal : new ≡ old
+  pub table : u ≡ t
+
+-- rows whose asks the wire doesn't carry
+abbrev pub unasked : (Ask → Bool) → Row → ℕ
+unasked p row = if p row.ask then 0 else 1
+
+-- a taken step was written down with its answer
+abbrev pub TurnsAs : {A E : Type 0} → Settings → List Entry → Result (Lists × A) E → (A → Entry) → List Entry → Lists → Type 0
+TurnsAs s old (Ok p) entry new u = Turns s old p.0 (entry p.1) new u
+TurnsAs s old (Err refusal) entry new u = ⊥

@@ -1,0 +1,60 @@
+-- What contracts see of a connection's state, and what each call does to it.
+use Rattle.std.specs.Prelude.{◌≡◌, ◌⊎◌, ℕ, ◌+◌, List, [], ◌∷◌, ◌++◌, length, Option, Some, None}
+use Rattle.wire_frames.specs.WireMeaning.{WireMeaning}
+use Rattle.conn_core.specs.Finds.{weight_of}
+use Rattle.conn_core.specs.Journals.{Legal, table_of, turn_of, worn_entry}
+use Rattle.conn_core.specs.Rooms.{IsKept, IsSettings, lists_of, unasked}
+use Rattle.conn_core.specs.Steps.{step}
+use Rattle.conn_core.specs.Tables.{Connection, Table}
+use Rattle.conn_core.specs.declared.entries.Answer.{Answer}
+use Rattle.conn_core.specs.declared.entries.Entry.{Entry}
+use Rattle.conn_core.specs.declared.entries.Event.{Event}
+use Rattle.conn_core.specs.declared.kept.Kept.{Kept}
+use Rattle.conn_core.specs.declared.settings.Settings.{Settings}
+
+-- what is fixed for a connection: the wire and the settings
+pub record Key (W : Type 0) : Type 0 where
+  pub wire : W
+  pub settings : Settings
+
+-- a connection's state: its key, and all that happened
+pub record State (W : Type 0) : Type 0 where
+  pub key : Key W
+  pub journal : List Entry
+
+-- the connection of a key, by what its wire means
+abbrev pub connection_of : {W : Type 0} → (W → WireMeaning) → Key W → Connection
+connection_of meaning key = record { wire = meaning key.wire; settings = key.settings }
+
+-- the table that a state's journal leads to
+abbrev pub table_in : {W : Type 0} → (W → WireMeaning) → State W → Table
+table_in meaning state = table_of (connection_of meaning state.key) state.journal
+
+abbrev pub grown : Connection → List Entry → ℕ → Event → Option (Table × Answer) → List Entry
+grown c journal actor event None = journal
+grown c journal actor event (Some p) = journal ++ turn_of c.settings (length journal + 1) p.0 (record { actor = actor; event = event; answer = p.1 })
+
+-- the journal after an event: the old one where the event is refused, else with its entry, and the close by a full journal
+-- where it must follow
+abbrev pub journal_after : {W : Type 0} → (W → WireMeaning) → State W → ℕ → Event → List Entry
+journal_after meaning state actor event =
+    let c = connection_of meaning state.key in grown c state.journal actor event (step c (table_of c state.journal) actor event)
+
+-- the state after an event
+abbrev pub state_after : {W : Type 0} → (W → WireMeaning) → State W → ℕ → Event → State W
+state_after meaning state actor event = record { key = state.key; journal = journal_after meaning state actor event }
+
+-- the journal stays, or has one entry more, of this actor, or that entry and a close by a full journal, of this actor too
+abbrev pub Grows : ℕ → List Entry → List Entry → Type 0
+Grows actor old new =
+    (new ≡ old)
+    ⊎ ((e : Entry) × (e.actor ≡ actor) × (new ≡ old ++ e ∷ []))
+    ⊎ ((e : Entry) × (e.actor ≡ actor) × (new ≡ old ++ e ∷ worn_entry actor ∷ []))
+
+-- the rows and all the rest are the table of the journal, and the journal is legal
+pub record IsState (c : Connection) (kept : Kept) : Type 0 where
+  pub settings : IsSettings c.settings
+  pub room : IsKept c.settings kept
+  pub legal : Legal c kept.journal.items
+  pub table : table_of c kept.journal.items ≡ lists_of kept.table
+  pub asks : weight_of (unasked c.wire.admits) kept.table.rows.items ≡ 0

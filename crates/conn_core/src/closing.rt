@@ -1,0 +1,87 @@
+ghost use Rattle.std.specs.Prelude.{◌≡◌, ◌+◌, ◌≤◌, ◌++◌, ◌∷◌, [], map, vec_len};
+ghost use Rattle.std.specs.Vec.{vec_capacity};
+ghost use Rattle.std.specs.VecDeque.{deque_len, deque_capacity};
+ghost use Rattle.conn_core.specs.Finds.{weight_of};
+ghost use Rattle.conn_core.specs.Rooms.{lists_of, references_kept};
+ghost use Rattle.conn_core.specs.Steps.{closed_by};
+ghost use Rattle.conn_core.specs.Tables.{is_queued, is_sent, lost_row, references_of};
+
+use crate::ends::make_lost;
+use crate::lists::{add, add_back};
+use crate::rows::{Phase, Row};
+use crate::tables::Table;
+use std::alloc::Global;
+use std::collections::VecDeque;
+use wire_frames::Reason;
+
+/// Ends a live row, and puts its reference where it belongs.
+fn lose_row(
+    row: &mut Row,
+    alloc: Global,
+    reason: Reason,
+    free: &mut VecDeque<u16>,
+    quarantined: &mut Vec<u16>,
+)
+    requires free { deque_len free.old + references_kept row.old ≤ deque_capacity free.old }
+    requires quarantined { vec_len quarantined.old + references_kept row.old ≤ vec_capacity quarantined.old }
+    ensures row { row.new ≡ lost_row reason row.old }
+    ensures freed { free.new.items ≡ free.old.items ++ references_of is_queued (row.old ∷ []) }
+    ensures put_out { quarantined.new.items ≡ quarantined.old.items ++ references_of is_sent (row.old ∷ []) }
+    ensures free_len { deque_len free.new ≤ deque_len free.old + references_kept row.old }
+    ensures quarantine_len { vec_len quarantined.new ≤ vec_len quarantined.old + references_kept row.old }
+    ensures free_room { deque_capacity free.old ≤ deque_capacity free.new }
+    ensures quarantine_room { vec_capacity quarantined.old ≤ vec_capacity quarantined.new }
+{
+    match &row.phase {
+        Phase::Queued(_) => {
+            add_back(free, row.reference);
+            row.phase = Phase::Ended(make_lost(alloc, reason));
+        }
+        Phase::Sent => {
+            add(quarantined, row.reference);
+            row.phase = Phase::Ended(make_lost(alloc, reason));
+        }
+        Phase::Ended(_) => {}
+    }
+}
+
+/// Ends every live row, by rising id.
+fn lose_rows(
+    rows: &mut Vec<Row>,
+    alloc: Global,
+    reason: Reason,
+    free: &mut VecDeque<u16>,
+    quarantined: &mut Vec<u16>,
+)
+    requires free { deque_len free.old + weight_of references_kept rows.old.items ≤ deque_capacity free.old }
+    requires quarantined { vec_len quarantined.old + weight_of references_kept rows.old.items ≤ vec_capacity quarantined.old }
+    ensures rows { rows.new.items ≡ map (lost_row reason) rows.old.items }
+    ensures freed { free.new.items ≡ free.old.items ++ references_of is_queued rows.old.items }
+    ensures put_out { quarantined.new.items ≡ quarantined.old.items ++ references_of is_sent rows.old.items }
+    ensures free_room { deque_capacity free.old ≤ deque_capacity free.new }
+    ensures quarantine_room { vec_capacity quarantined.old ≤ vec_capacity quarantined.new }
+{
+    for at in 0..rows.len() {
+        lose_row(&mut rows[at], alloc, reason, free, quarantined);
+    }
+}
+
+/// Closes an open table.
+pub(crate) fn close(table: &mut Table, reason: Reason)
+    requires free { deque_len table.old.free + weight_of references_kept table.old.rows.items ≤ deque_capacity table.old.free }
+    requires quarantined { vec_len table.old.quarantined + weight_of references_kept table.old.rows.items ≤ vec_capacity table.old.quarantined }
+    ensures table { lists_of table.new ≡ closed_by reason (lists_of table.old) }
+    ensures free_room { deque_capacity table.old.free ≤ deque_capacity table.new.free }
+    ensures quarantine_room { vec_capacity table.old.quarantined ≤ vec_capacity table.new.quarantined }
+{
+    lose_rows(
+        &mut table.rows,
+        table.alloc,
+        reason,
+        &mut table.free,
+        &mut table.quarantined,
+    );
+    table.held.clear();
+    table.waiting.clear();
+    table.closed = Some(reason);
+}

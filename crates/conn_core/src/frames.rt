@@ -1,0 +1,62 @@
+ghost use Rattle.std.specs.Prelude.{◌≡◌, ◌<◌, ◌≤◌, IfOk, OnOk, OnErr, vec_len};
+ghost use Rattle.conn_core.specs.Finds.{weight_of};
+ghost use Rattle.conn_core.specs.Rooms.{HasTurnRoom, IsKept, IsSettings, Stays, TurnsAs, capacities_of, lists_of, unasked};
+ghost use Rattle.conn_core.specs.Steps.{IsGiven, answer_of, apply_frame, frame_answer};
+ghost use Rattle.conn_core.specs.declared.entries.Event.TheVariants as events;
+
+use crate::answers::{FrameAnswer, FrameRefusal};
+use crate::entries::{Answer, Entry, Event};
+use crate::kept::{Kept, reserve_turn, write_down};
+use crate::receiving::receive;
+use crate::settings::Settings;
+use node_tree::ByteList;
+use std::alloc::AllocError;
+use wire_frames::Wire;
+
+fn write_received(answer: FrameAnswer) -> Answer
+    ensures { result ≡ frame_answer answer }
+{
+    match answer {
+        FrameAnswer::Ended { id, kind } => Answer::Ended { id, kind },
+        FrameAnswer::Late { reference } => Answer::Late { reference },
+        FrameAnswer::Stray { reference } => Answer::Stray { reference },
+        FrameAnswer::Undecodable { index, why } => Answer::Undecodable { index, why },
+    }
+}
+
+/// Takes room for a frame and all that it can cause.
+fn reserve_frame(kept: &mut Kept, settings: &Settings) -> Result<(), AllocError>
+    requires { IsKept settings.now kept.old }
+    ensures stays { Stays kept.old.journal.items (lists_of kept.old.table) kept.new.journal.items (lists_of kept.new.table) }
+    ensures kept { IsKept settings.now kept.new }
+    ensures turn { OnOk result (HasTurnRoom (vec_len kept.new.journal) (capacities_of kept.new) (lists_of kept.new.table)) }
+{
+    reserve_turn(kept)
+}
+
+/// Takes a frame, and keeps its bytes in the journal.
+pub(crate) fn apply_frame<W: Wire>(
+    kept: &mut Kept,
+    wire: &W,
+    settings: &Settings,
+    actor: u32,
+    frame: ByteList,
+) -> Result<FrameAnswer, FrameRefusal>
+    requires settings { IsSettings settings.now }
+    requires kept { IsKept settings.now kept.old }
+    requires asks { weight_of (unasked (W.meaning wire.now).admits) kept.old.table.rows.items ≡ 0 }
+    ensures answer { IsGiven FrameRefusal.NoMemory result (answer_of (apply_frame (W.meaning wire.now) (lists_of kept.old.table) frame)) }
+    ensures turned { OnOk result (TurnsAs settings.now kept.old.journal.items (apply_frame (W.meaning wire.now) (lists_of kept.old.table) frame) (λ answer. record { actor = actor; event = events.Frame frame; answer = frame_answer answer }) kept.new.journal.items (lists_of kept.new.table)) }
+    ensures stays { OnErr result (Stays kept.old.journal.items (lists_of kept.old.table) kept.new.journal.items (lists_of kept.new.table)) }
+    ensures kept { IsKept settings.now kept.new }
+{
+    reserve_frame(kept, settings)?;
+    let answer = receive(&mut kept.table, wire, frame.as_slice())?;
+    let entry = Entry {
+        actor,
+        event: Event::Frame { bytes: frame },
+        answer: write_received(answer),
+    };
+    write_down(kept, settings, entry);
+    Ok(answer)
+}

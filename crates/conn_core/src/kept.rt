@@ -1,0 +1,141 @@
+ghost use Rattle.std.specs.Prelude.{◌≡◌, ◌+◌, ◌≤◌, ◌*◌, ◌++◌, [], IfOk, OnOk, vec_len, length};
+ghost use Rattle.std.specs.List.{range_with_len};
+ghost use Rattle.std.specs.Vec.{vec_capacity};
+ghost use Rattle.std.specs.VecDeque.{deque_len, deque_capacity};
+ghost use Rattle.conn_core.specs.Finds.{weight_of};
+ghost use Rattle.conn_core.specs.Journals.{settled, turn_of, wears, worn_entry};
+ghost use Rattle.conn_core.specs.Rooms.{CanTurn, IsKept, IsSettings, Turns, capacities_of, closes_of, lists_of, references_kept};
+ghost use Rattle.conn_core.specs.Tables.{is_open, opening};
+
+use crate::closing::close;
+use crate::entries::{Answer, Entry, Event};
+use crate::lists::{add, add_back};
+use crate::settings::Settings;
+use crate::tables::Table;
+use std::alloc::{AllocError, Global};
+use std::collections::VecDeque;
+use wire_frames::Reason;
+
+/// What a connection keeps: its journal, and the table that the journal leads to.
+#[derive(Drop)]
+pub(crate) struct Kept {
+    pub journal: Vec<Entry>,
+    pub table: Table,
+}
+
+fn make_worn(actor: u32) -> Entry
+    ensures { result ≡ worn_entry actor }
+{
+    Entry {
+        actor,
+        event: Event::Close {
+            reason: Reason::Worn,
+        },
+        answer: Answer::Closed,
+    }
+}
+
+pub(crate) fn check_open(table: &Table) -> bool
+    ensures { result ≡ is_open (lists_of table.now) }
+{
+    match &table.closed {
+        None => true,
+        Some(_) => false,
+    }
+}
+
+/// Whether so many entries bring an open table to its end.
+fn check_wears(table: &Table, settings: &Settings, entries: usize) -> bool
+    ensures { result ≡ wears settings.now entries (lists_of table.now) }
+{
+    if entries == settings.journal as usize {
+        check_open(table)
+    } else {
+        false
+    }
+}
+
+/// Writes an entry down, and closes the table where the journal is full by it.
+pub(crate) fn record(journal: &mut Vec<Entry>, table: &mut Table, settings: &Settings, entry: Entry)
+    requires room { vec_len journal.old + 1 + closes_of (lists_of table.old) ≤ vec_capacity journal.old }
+    requires free { deque_len table.old.free + weight_of references_kept table.old.rows.items ≤ deque_capacity table.old.free }
+    requires quarantined { vec_len table.old.quarantined + weight_of references_kept table.old.rows.items ≤ vec_capacity table.old.quarantined }
+    ensures journal { journal.new.items ≡ journal.old.items ++ turn_of settings.now (length journal.old.items + 1) (lists_of table.old) entry }
+    ensures table { lists_of table.new ≡ settled settings.now (length journal.old.items + 1) (lists_of table.old) }
+    ensures journal_room { vec_capacity journal.old ≤ vec_capacity journal.new }
+    ensures free_room { deque_capacity table.old.free ≤ deque_capacity table.new.free }
+    ensures quarantine_room { vec_capacity table.old.quarantined ≤ vec_capacity table.new.quarantined }
+{
+    let actor = entry.actor;
+    let full = check_wears(table, settings, journal.len() + 1);
+    add(journal, entry);
+    if full {
+        close(table, Reason::Worn);
+        add(journal, make_worn(actor));
+    }
+}
+
+/// Takes room in the journal for one more event and all that can follow from it.
+pub(crate) fn reserve_turn(kept: &mut Kept) -> Result<(), AllocError>
+    requires rows { vec_len kept.old.table.rows ≤ 1024 }
+    requires held { vec_len kept.old.table.held ≤ 64 }
+    requires waiting { vec_len kept.old.table.waiting ≤ 64 }
+    ensures journal { kept.new.journal.items ≡ kept.old.journal.items }
+    ensures table { kept.new.table ≡ kept.old.table }
+    ensures room { vec_capacity kept.old.journal ≤ vec_capacity kept.new.journal }
+    ensures ok { OnOk result (vec_len kept.new.journal + 3 * vec_len kept.old.table.rows + vec_len kept.old.table.held + 2 * vec_len kept.old.table.waiting + 6 ≤ vec_capacity kept.new.journal) }
+{
+    let rows = kept.table.rows.len();
+    let held = kept.table.held.len();
+    let waiting = kept.table.waiting.len();
+    kept.journal.reserve(3 * rows + held + 2 * waiting + 6)
+}
+
+/// Writes down an entry that can cause no more than there is room for.
+pub(crate) fn write_down(kept: &mut Kept, settings: &Settings, entry: Entry)
+    requires { CanTurn settings.now (vec_len kept.old.journal) (capacities_of kept.old) (lists_of kept.old.table) }
+    ensures turned { Turns settings.now kept.old.journal.items (lists_of kept.old.table) entry kept.new.journal.items (lists_of kept.new.table) }
+    ensures kept { IsKept settings.now kept.new }
+{
+    record(&mut kept.journal, &mut kept.table, settings, entry);
+}
+
+/// The references from 1 to `count`.
+fn first_references(alloc: Global, count: u16) -> Result<VecDeque<u16>, AllocError>
+    ensures items { IfOk result (λ free. free.items ≡ range_with_len 1 count) }
+    ensures room { IfOk result (λ free. count ≤ deque_capacity free) }
+{
+    let mut free = VecDeque::with_capacity(alloc, usize::from(count))?;
+    for reference in 0..count {
+        add_back(&mut free, reference + 1);
+    }
+    Ok(free)
+}
+
+/// An empty journal and the opening table, with the room that they need to close.
+pub(crate) fn open_kept(alloc: Global, settings: &Settings) -> Result<Kept, AllocError>
+    requires { IsSettings settings.now }
+    ensures journal { IfOk result (λ kept. kept.journal.items ≡ []) }
+    ensures table { IfOk result (λ kept. lists_of kept.table ≡ opening settings.now) }
+    ensures kept { IfOk result (λ kept. IsKept settings.now kept) }
+{
+    let journal = Vec::with_capacity(alloc, 1)?;
+    let free = first_references(alloc, settings.references)?;
+    let quarantined = Vec::with_capacity(alloc, usize::from(settings.references))?;
+    Ok(Kept {
+        journal,
+        table: Table {
+            alloc,
+            rows: Vec::new(alloc),
+            free,
+            quarantined,
+            held: Vec::new(alloc),
+            waiting: Vec::new(alloc),
+            clock: 0,
+            closed: None,
+            leases: 0,
+            requests: 0,
+            frames: 0,
+        },
+    })
+}

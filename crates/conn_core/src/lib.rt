@@ -1,0 +1,34 @@
+//! The request table of one connection: who holds a lease on it, which requests are under way, which
+//! frame ends which, and the journal of all that happened.
+#![tactic(auto)]
+
+mod answers;
+mod asking;
+mod calls;
+mod closing;
+mod conn;
+mod ending;
+mod ends;
+mod entries;
+mod finding;
+mod frames;
+mod kept;
+mod lists;
+mod receiving;
+mod requests;
+mod rows;
+mod sending;
+mod settings;
+mod submitting;
+mod tables;
+#[cfg(test)]
+mod tests;
+
+pub use answers::{
+    Accepted, AskRefusal, CancelRefusal, FrameAnswer, FrameRefusal, LeaseAnswer, LeaseRefusal,
+    SendRefusal, Sending, SubmitRefusal, TakeRefusal, Ticked,
+};
+pub use conn::ConnState;
+pub use entries::{Answer, Entry, EntryList, Event};
+pub use rows::{Lease, Phase, Row};
+pub use settings::Settings;

@@ -1,0 +1,91 @@
+ghost use Rattle.std.specs.Prelude.{◌≡◌, ◌+◌, ◌<◌, ◌^◌, ◌-◌, ◌≤◌, IsTrue, IfOk, OnErr, vec_len, Ok, MatchResult};
+ghost use Rattle.std.specs.Vec.{vec_capacity};
+ghost use Rattle.std.specs.VecDeque.{deque_capacity};
+ghost use Rattle.conn_core.specs.Requests.{request_of};
+ghost use Rattle.conn_core.specs.Rooms.{lists_of};
+ghost use Rattle.conn_core.specs.Steps.{accepted_of, answer_of, next_reference, place_for, table_or, with_reference};
+
+use crate::answers::{Accepted, SubmitRefusal};
+use crate::finding::check_holds;
+use crate::lists::add;
+use crate::rows::{Phase, Row};
+use crate::tables::{Table, find_deadline};
+use node_tree::ByteList;
+use std::collections::VecDeque;
+use wire_frames::Ask;
+
+/// What a caller hands in.
+#[derive(Debug, Drop)]
+pub(crate) struct Request {
+    pub actor: u32,
+    pub lease: u64,
+    pub ask: Ask,
+    pub timeout_ms: u32,
+    pub moment: u64,
+}
+
+/// The reference that the next request goes out under, or 1 where none is free.
+fn peek_reference(free: &VecDeque<u16>) -> u16
+    ensures { result ≡ next_reference free.now.items }
+{
+    match free.front() {
+        Some(reference) => *reference,
+        None => 1,
+    }
+}
+
+/// The reference to try, where the caller may hand in a request.
+pub(crate) fn find_place(table: &Table, actor: u32, lease: u64) -> Result<u16, SubmitRefusal>
+    ensures { result ≡ place_for (lists_of table.now) actor lease }
+{
+    if let Some(reason) = table.closed {
+        return Err(SubmitRefusal::Closed(reason));
+    }
+    if !check_holds(table.held.as_slice(), actor, lease) {
+        return Err(SubmitRefusal::NoLease);
+    }
+    if table.rows.len() >= 1024 {
+        return Err(SubmitRefusal::TableFull);
+    }
+    Ok(peek_reference(&table.free))
+}
+
+/// Queues a request under the first free reference.
+pub(crate) fn start(
+    table: &mut Table,
+    request: Request,
+    frame: ByteList,
+) -> Result<Accepted, SubmitRefusal>
+    requires rows { vec_len table.old.rows < vec_capacity table.old.rows }
+    requires requests { table.old.requests < 2 ^ 64 - 1 }
+    ensures answer { result ≡ accepted_of (answer_of (with_reference (lists_of table.old) (request_of request) frame table.old.free.items)) }
+    ensures table { lists_of table.new ≡ table_or (lists_of table.old) (with_reference (lists_of table.old) (request_of request) frame table.old.free.items) }
+    ensures free_room { deque_capacity table.old.free ≤ deque_capacity table.new.free }
+    ensures quarantine_room { vec_capacity table.old.quarantined ≤ vec_capacity table.new.quarantined }
+{
+    let reference = match table.free.pop_front() {
+        None => return Err(SubmitRefusal::NoReference),
+        Some(reference) => reference,
+    };
+    let Request {
+        actor,
+        lease,
+        ask,
+        timeout_ms,
+        moment,
+    } = request;
+    table.clock = table.clock.max(moment);
+    table.requests += 1;
+    let id = table.requests;
+    let row = Row {
+        id,
+        actor,
+        lease,
+        ask,
+        reference,
+        deadline: find_deadline(table.clock, timeout_ms),
+        phase: Phase::Queued(frame),
+    };
+    add(&mut table.rows, row);
+    Ok(Accepted { id, reference })
+}

@@ -1,0 +1,3 @@
+pub mod RawFrames
+pub mod RawReplies
+pub mod WireMeaning

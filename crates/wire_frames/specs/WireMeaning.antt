@@ -1,0 +1,64 @@
+-- What a wire is, as functions.
+use Rattle.std.specs.Prelude.{◌≡◌, ℕ, Bool, List, [], Result, Ok, Err}
+use Rattle.node_tree.specs.declared.faults.WriteWhy.{WriteWhy}
+use Rattle.node_tree.specs.declared.readings.Reading.{Reading}
+use Rattle.wire_frames.specs.declared.asks.Ask.{Ask}
+use Rattle.wire_frames.specs.declared.ends.EndKind.{EndKind}
+use Rattle.wire_frames.specs.declared.ends.EndKind.TheVariants.{Done, Written, Remote, Mismatch, Cancelled, Expired, LeaseGone, Lost}
+use Rattle.wire_frames.specs.declared.ends.FrameWhy.{FrameWhy}
+use Rattle.wire_frames.specs.declared.ends.Outcome.{Outcome}
+use Rattle.wire_frames.specs.declared.wires.FrameFault.{FrameFault}
+use Rattle.wire_frames.specs.declared.wires.FrameFault.TheVariants as frame_faults
+use Rattle.wire_frames.specs.declared.wires.LengthRule.{LengthRule}
+use Rattle.wire_frames.specs.declared.wires.Reply.{Reply}
+use Rattle.wire_frames.specs.declared.wires.ReplyFault.{ReplyFault}
+use Rattle.wire_frames.specs.declared.wires.ReplyFault.TheVariants as reply_faults
+
+-- the part of an ask's tree that can't be written, and why
+pub record Refused : Type 0 where
+  pub entry : ℕ
+  pub why : WriteWhy
+
+pub record WireMeaning : Type 0 where
+  -- how frames tell their length
+  pub rule : LengthRule
+  -- which asks it carries
+  pub admits : Ask → Bool
+  -- the bytes of the larger of the ask's frame and the reply that completes it
+  pub size : Ask → ℕ
+  -- how many bytes a frame may have
+  pub limit : ℕ
+  -- the frame of an ask under a reference
+  pub frame_of : Ask → ℕ → Result (List ℕ) Refused
+  -- the reading of a frame
+  pub reading_of : List ℕ → Result Reading FrameWhy
+  -- the reference of a frame that can be read
+  pub reference_of : List ℕ → ℕ
+  -- what a reading makes of an ask
+  pub fit : Ask → Reading → Outcome
+
+-- `frame` answered what the frame is, or found no memory
+abbrev pub FramesAs : Result (List ℕ) Refused → Result (List ℕ) FrameFault → Type 0
+FramesAs wanted (Ok bytes) = wanted ≡ Ok bytes
+FramesAs wanted (Err (frame_faults.Unwritable e w)) = wanted ≡ Err (record { entry = e; why = w })
+FramesAs wanted (Err frame_faults.NoMemory) = Unit {0}
+
+-- `reply` answered the frame itself with its reading and its reference, or why it can't be read, or found no memory
+abbrev pub ReadsAs : WireMeaning → List ℕ → Result Reply ReplyFault → Type 0
+ReadsAs m frame (Ok reply) = (m.reading_of frame ≡ Ok reply.reading) × (reply.reference ≡ m.reference_of frame) × (reply.frame.now ≡ frame)
+ReadsAs m frame (Err (reply_faults.Undecodable why)) = m.reading_of frame ≡ Err why
+ReadsAs m frame (Err reply_faults.NoMemory) = Unit {0}
+
+abbrev pub IsDoneOrBare : EndKind → Type 0 → Type 0
+IsDoneOrBare Done bare = Unit {0}
+IsDoneOrBare Written bare = bare
+IsDoneOrBare (Remote code) bare = bare
+IsDoneOrBare (Mismatch place got) bare = bare
+IsDoneOrBare Cancelled bare = ⊥
+IsDoneOrBare Expired bare = ⊥
+IsDoneOrBare LeaseGone bare = ⊥
+IsDoneOrBare (Lost reason) bare = ⊥
+
+-- what a reply makes of a request: done with values, or written, refused by the device or mismatched without
+abbrev pub IsReplyKind : Outcome → Type 0
+IsReplyKind outcome = IsDoneOrBare outcome.kind (outcome.values ≡ [])

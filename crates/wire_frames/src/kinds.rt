@@ -1,0 +1,52 @@
+/// The types of values that a controller keeps.
+#[derive(Clone, Copy, Debug, PartialEq, Eq)]
+pub enum PlcType {
+    Bool,
+    Byte,
+    Word,
+    Dword,
+    Lword,
+    Sint,
+    Usint,
+    Int,
+    Uint,
+    Dint,
+    Udint,
+    Lint,
+    Ulint,
+    Real,
+    Lreal,
+}
+
+/// Where in a controller values lie.
+#[derive(Clone, Copy, Debug, PartialEq, Eq)]
+pub enum Area {
+    Coil,
+    DiscreteInput,
+    InputRegister,
+    HoldingRegister,
+    S7Input,
+    S7Output,
+    S7Flag,
+    S7Block,
+}
+
+/// `count` values of one type that lie one after another from `start` on. `block` and `bit` are 0
+/// where the area has none.
+#[derive(Clone, Copy, Debug, PartialEq, Eq)]
+pub struct Item {
+    pub area: Area,
+    pub block: u16,
+    pub start: u16,
+    pub bit: u8,
+    pub kind: PlcType,
+    pub count: u16,
+}
+
+/// A value of an item: a flag, a whole number, or a floating number as its `width` raw bits.
+#[derive(Clone, Copy, Debug, PartialEq, Eq)]
+pub enum PlcValue {
+    Bool(bool),
+    Whole(i128),
+    Raw { bits: u64, width: u8 },
+}

@@ -1,0 +1,17 @@
+//! What goes over a wire: the asks of callers, the frames that carry them, what comes back, and the
+//! trait `Wire`, by which a request table uses a protocol without knowing it.
+#![tactic(auto)]
+
+mod asks;
+mod ends;
+mod kinds;
+mod raw;
+#[cfg(test)]
+mod tests;
+mod wires;
+
+pub use asks::{Ask, ItemList, ValueList, ValueRows};
+pub use ends::{EndKind, FrameWhy, Outcome, Reason};
+pub use kinds::{Area, Item, PlcType, PlcValue};
+pub use raw::RawWire;
+pub use wires::{FrameFault, LengthRule, Reply, ReplyFault, Wire};
