@@ -104,4 +104,4 @@ pub record IsEndPlace (c : Connection) (journal : List Entry) (id : ℕ) (r : Su
 -- its outcome: the values are those of the fit, where a frame ended it, else there are none
 pub data IsOutcome (c : Connection) (journal : List Entry) (id : ℕ) (r : Submitted journal id) (k : ℕ) : Outcome → Type 0 where
   fitted : (actor : ℕ) (bytes : List ℕ) (kind : EndKind) (reading : Reading) → Stands journal k actor (events.Frame bytes) (answers.Ended id kind) → c.wire.reading_of bytes ≡ Ok reading → IsEndPlace c journal id r k (c.wire.fit r.ask reading).kind → IsOutcome c journal id r k (c.wire.fit r.ask reading)
-  bare : (kind : EndKind) → IsEndPlace c journal id r k kind → ((actor : ℕ) (bytes : List ℕ) (answer : Answer) → ¬ Stands journal k actor (events.Frame bytes) answer) → IsOutcome c journal id r k (record { kind = kind; values = [] })
+  bare : (kind : EndKind) → IsEndPlace c journal id r k kind → ((actor : ℕ) (bytes : List ℕ) (by : EndKind) → ¬ Stands journal k actor (events.Frame bytes) (answers.Ended id by)) → IsOutcome c journal id r k (record { kind = kind; values = [] })
