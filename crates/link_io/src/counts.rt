@@ -1,5 +1,5 @@
 ghost use Rattle.std.specs.Prelude.{◌≡◌, ◌≤◌};
-ghost use Rattle.link_io.specs.Counts.{Rose, next};
+ghost use Rattle.link_io.specs.Counts.{next};
 
 use std::marker::Model;
 
@@ -34,7 +34,6 @@ impl Count {
 
     pub fn rise(&mut self)
         ensures one_more { self.new ≡ next self.old }
-        ensures rose { Rose self.old self.new }
         ensures grows { self.old ≤ self.new }
     {
         self.number = self.number.saturating_add(1);

@@ -19,7 +19,7 @@ use Rattle.plchost.specs.Tool.{AreDecode, Names, ComesTo, WordsRefused, FileFaul
 
 -- an input that was left alone
 pub untouched : (tape : Option Tape) (ends faults : ℕ) → InputTaken tape tape ends ends faults faults [] None
-untouched tape ends faults = record { given = sym (after_giving-nil tape); left = (refl, refl) }
+untouched tape ends faults = record { given = sym (after_giving-nil tape); enough = omega arith; left = (refl, refl) }
 
 pub both_ok : {T E : Type 0} (r : Result T E) (P Q R : T → Type 0) → IfOk r P → IfOk r Q → ((x : T) → P x → Q x → R x) → IfOk r R
 both_ok (Ok x) P Q R p q f = f x p q

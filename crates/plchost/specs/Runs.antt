@@ -1,5 +1,5 @@
 -- What a run of the program did with its streams, as they tell it and by their counts.
-use Rattle.std.specs.Prelude.{ℕ, ◌≡◌, ◌<◌, ◌≤◌, ◌⊎◌, List, ◌++◌, length, Option, Some, None, IfSome}
+use Rattle.std.specs.Prelude.{ℕ, ◌≡◌, ◌+◌, ◌<◌, ◌≤◌, ◌⊎◌, List, ◌++◌, length, Option, Some, None, IfSome}
 use Rattle.link_io.specs.Counts.{Rose}
 use Rattle.link_io.specs.Streams.{Tape, after_giving, after_taking}
 use Rattle.plchost.specs.declared.inputs.How.{How}
@@ -33,9 +33,10 @@ pub record ShelfSeen (words : List (List ℕ)) (faults faults' : List ℕ → �
   pub named : (name kind : List ℕ) → AreDecode words name kind → FileSeen name faults faults' (told name) file
   pub others : (other : List ℕ) → ((name kind : List ℕ) → AreDecode words name kind → counts_with name other → ⊥) → faults' other ≡ faults other
 
--- What was taken from the input, and how it was left.
+-- What was taken from the input, no more than shows that it is too long, and how it was left.
 pub record InputTaken (tape tape' : Option Tape) (ends ends' faults faults' : ℕ) (taken : List ℕ) (how : Option How) : Type 0 where
   pub given : tape' ≡ after_giving taken tape
+  pub enough : length taken ≤ 1 + input_limit
   pub left : LeftSo how ends ends' faults faults' taken
 
 -- the statuses of a run that stops before it reads its input
