@@ -4,6 +4,7 @@ pub mod FormLaws
 pub mod FormReads
 pub mod FrontLemmas
 pub mod Fronts
+pub mod InputLemmas
 pub mod ListingLemmas
 pub mod RunLemmas
 pub mod StatusLemmas

@@ -1,5 +1,6 @@
 -- What each status tells.
-use Rattle.std.proofs.Common.{◌≡◌, ◌≢◌, ℕ, ◌==◌, ◌||◌, ◌<◌, ◌⊎◌, Bool, true, false, List, Option, Some, None, refl, inl, inr, sym, ap, ◌∙◌, zero, suc, arith}
+use Rattle.std.proofs.Common.{◌≡◌, ◌≢◌, ℕ, ◌==◌, ◌||◌, ◌<◌, ◌⊎◌, Bool, true, false, List, Option, Some, None, refl, inl, inr, sym, ap, ◌∙◌, subst, zero, suc, arith}
+use Rattle.std.specs.Option.{IfSome}
 use Rattle.std.proofs.lemmas.Bool.{false≢true}
 use Rattle.mspec_meaning.specs.Stream.{Ending, End, TooFew, Refused}
 use Rattle.link_io.specs.Counts.{Rose}
@@ -119,3 +120,14 @@ is_or_not zero zero = inl refl
 is_or_not zero (suc m) = inr (λ e. absurd (omega (arith, e)))
 is_or_not (suc n) zero = inr (λ e. absurd (omega (arith, e)))
 is_or_not (suc n) (suc m) = elim (is_or_not n m) [ inl e ↦ inl (ap (λ k. suc k) e) | inr ne ↦ inr (λ e. absurd (ne (omega (arith, e)))) ]
+
+pub refused_at_12 : (words : List (List ℕ)) (file : Option (List ℕ)) (taken : List ℕ) (how : Option How) (result : Result) → ComesTo words file taken result → (said how result).status ≡ 12 → ComesTo words file taken TypeRefused
+refused_at_12 words file taken how WordsRefused comes e = absurd (omega (arith, e))
+refused_at_12 words file taken how FileFault comes e = absurd (omega (arith, e))
+refused_at_12 words file taken how NotBuilt comes e = absurd (omega (arith, e))
+refused_at_12 words file taken how TypeRefused comes e = comes
+refused_at_12 words file taken how (Values d def readings ending) comes e = absurd (not_last how ending 12 refl (sym e))
+
+pub text_seen_of : (name : List ℕ) (faults faults' : List ℕ → ℕ) (told file : Option (List ℕ)) (text : List ℕ) → file ≡ Some text → FileSeen name faults faults' told file → IfSome told (λ bytes. text ≡ bytes)
+text_seen_of name faults faults' told None text e seen = absurd cc
+text_seen_of name faults faults' told (Some other) text e seen = let same : other ≡ text = cc in subst (λ (t : List ℕ). IfSome told (λ bytes. t ≡ bytes)) same seen.1

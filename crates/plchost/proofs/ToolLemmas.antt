@@ -7,8 +7,9 @@ use Rattle.node_tree.specs.declared.readings.Reading.{Reading}
 use Rattle.node_tree.proofs.BitsLemmas.{within_or_past}
 use Rattle.mspec_tree.specs.declared.defs.Description.{Description}
 use Rattle.mspec_meaning.specs.Stream.{Stream, Ending}
-use Rattle.link_io.specs.Streams.{Tape, after_giving-nil}
+use Rattle.link_io.specs.Streams.{Tape, AreNext, after_giving-nil}
 use Rattle.plchost.specs.declared.inputs.How.{How}
+use Rattle.plchost.specs.declared.inputs.How.TheVariants.{Ended}
 use Rattle.plchost.specs.declared.preparing.Refusal.{Refusal}
 use Rattle.plchost.specs.declared.preparing.Refusal.TheVariants as refusals
 use Rattle.plchost.specs.FirstForm.{FirstForm}
@@ -17,9 +18,13 @@ use Rattle.plchost.specs.Preparing.{ComesToRefusal, refusal_said}
 use Rattle.plchost.specs.Runs.{InputTaken}
 use Rattle.plchost.specs.Tool.{AreDecode, Names, ComesTo, WordsRefused, FileFault, NotBuilt, TypeRefused, Values, Said, Tool, IsFront, said, listings, last_said}
 
+next_none : (tape : Option Tape) → AreNext [] tape
+next_none None = tt
+next_none (Some tape) = refl
+
 -- an input that was left alone
 pub untouched : (tape : Option Tape) (ends faults : ℕ) → InputTaken tape tape ends ends faults faults [] None
-untouched tape ends faults = record { given = sym (after_giving-nil tape); enough = omega arith; left = (refl, refl) }
+untouched tape ends faults = record { given = sym (after_giving-nil tape); next = next_none tape; at_end = λ e. absurd (let h : None ≡ Some Ended = e in cc); left = (refl, refl, omega arith) }
 
 pub both_ok : {T E : Type 0} (r : Result T E) (P Q R : T → Type 0) → IfOk r P → IfOk r Q → ((x : T) → P x → Q x → R x) → IfOk r R
 both_ok (Ok x) P Q R p q f = f x p q

@@ -40,6 +40,7 @@ impl From<Failed> for FileFault {
 pub fn read_file<F: Shelf>(alloc: Global, files: &mut F, name: &str) -> Result<Vec<u8>, FileFault>
     ensures text { IfOk result (λ text. IfSome (F.file files.old name.now) (λ bytes.
         text.items ≡ take (1 + TEXT_LIMIT) bytes)) }
+    ensures files { (other : List ℕ) → F.file files.new other ≡ F.file files.old other }
     ensures no_fault { result ≡ Err FileFault.Failed ⊎ ((other : List ℕ) → F.faults files.new other ≡ F.faults files.old other) }
     ensures others { (other : List ℕ) → (F.counts_with name.now other → ⊥) → F.faults files.new other ≡ F.faults files.old other }
     ensures fault { result ≡ Err FileFault.Failed → Rose (F.faults files.old name.now) (F.faults files.new name.now) }

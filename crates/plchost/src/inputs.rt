@@ -1,6 +1,6 @@
-ghost use Rattle.std.specs.Prelude.{◌≡◌, ◌+◌, ◌<◌, ◌≤◌, ℕ, List, Some, None, length, MatchResult};
-ghost use Rattle.link_io.specs.Streams.{after_giving};
-ghost use Rattle.plchost.specs.Runs.{LeftSo};
+ghost use Rattle.std.specs.Prelude.{ℕ, List, Option, Some, IfOk, IfErr};
+ghost use Rattle.plchost.specs.declared.inputs.How.{How};
+ghost use Rattle.plchost.specs.Runs.{InputTaken};
 
 use link_io::Source;
 use std::alloc::{AllocError, Global};
@@ -28,12 +28,10 @@ pub struct Capture {
 
 /// Takes an input to its end, but for what lies past the byte that shows that it is too long.
 pub fn read_input<S: Source>(alloc: Global, input: &mut S) -> Result<Capture, AllocError>
-    ensures { MatchResult result
-        (λ capture. (S.told input.new ≡ after_giving capture.bytes.items (S.told input.old))
-        × LeftSo (Some capture.how) (S.ends input.old) (S.ends input.new) (S.faults input.old) (S.faults input.new) capture.bytes.items
-        × (length capture.bytes.items ≤ 1 + INPUT_LIMIT))
-        (λ _. (taken : List ℕ) × (S.told input.new ≡ after_giving taken (S.told input.old))
-        × LeftSo None (S.ends input.old) (S.ends input.new) (S.faults input.old) (S.faults input.new) taken) }
+    ensures taken { IfOk result (λ capture.
+        InputTaken (S.told input.old) (S.told input.new) (S.ends input.old) (S.ends input.new) (S.faults input.old) (S.faults input.new) capture.bytes.items (Some capture.how)) }
+    ensures no_memory { IfErr result (λ _. (taken : List ℕ) × (how : Option How)
+        × InputTaken (S.told input.old) (S.told input.new) (S.ends input.old) (S.ends input.new) (S.faults input.old) (S.faults input.new) taken how) }
 {
     let mut bytes = Vec::new(alloc);
     let mut buffer = [0; PIECE];

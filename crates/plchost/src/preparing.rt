@@ -1,9 +1,8 @@
 ghost use Rattle.std.specs.Prelude.{◌≡◌, ◌<◌, ◌≤◌, ℕ, List, Some, Option, length, IfOk, IfErr, MatchOption};
 ghost use Rattle.mspec_tree.specs.declared.defs.Description.{Description};
 ghost use Rattle.mspec_meaning.specs.Plain.{CanRead};
-ghost use Rattle.plchost.specs.FirstForm.{FirstForm};
-ghost use Rattle.plchost.specs.Tool.{AreDecode, Names};
-ghost use Rattle.plchost.specs.Runs.{ShelfSeen};
+ghost use Rattle.plchost.specs.Tool.{Names};
+ghost use Rattle.plchost.specs.Runs.{ShelfSeen, IsReady};
 ghost use Rattle.plchost.specs.Preparing.{ComesToRefusal, from_file, from_form};
 
 use crate::files::{FileFault, read_file};
@@ -51,9 +50,9 @@ pub fn prepare<F: Shelf>(
     words: &StringList,
     files: &mut F,
 ) -> Result<Prepared, Refusal>
-    ensures ready { IfOk result (λ ready. (name kind text : List ℕ) × AreDecode words.now name kind
-        × ShelfSeen words.now (F.faults files.old) (F.faults files.new) F.counts_with (F.file files.old) (Some text)
-        × FirstForm text ready.description × Names ready.description ready.def kind) }
+    ensures ready { IfOk result (λ ready.
+        IsReady words.now (F.faults files.old) (F.faults files.new) F.counts_with (F.file files.old) ready.description ready.def) }
+    ensures files { (other : List ℕ) → F.file files.new other ≡ F.file files.old other }
     ensures refused { IfErr result (λ refusal. (file : Option (List ℕ))
         × ShelfSeen words.now (F.faults files.old) (F.faults files.new) F.counts_with (F.file files.old) file
         × ((taken : List ℕ) → ComesToRefusal words.now file taken refusal)) }

@@ -1,9 +1,11 @@
-ghost use Rattle.std.specs.Prelude.{◌≡◌, ◌≢◌, ◌<◌, ◌⊎◌, ℕ, List, ◌++◌, Option, codes, Ok, Err, IfOk, OnOk, OnErr};
+ghost use Rattle.std.specs.Prelude.{◌≡◌, ◌≢◌, ◌+◌, ◌<◌, ◌⊎◌, length, IfSome, ℕ, List, ◌++◌, Option, codes, Ok, Err, IfOk, OnOk, OnErr};
 ghost use Rattle.link_io.specs.Counts.{Rose, top};
-ghost use Rattle.link_io.specs.Streams.{after_taking};
+ghost use Rattle.link_io.specs.Streams.{after_giving, after_taking};
+ghost use Rattle.mspec_tree.specs.declared.defs.Description.{Description};
+ghost use Rattle.plchost.specs.FirstForm.{FirstForm};
 ghost use Rattle.plchost.specs.declared.inputs.How.{How};
-ghost use Rattle.plchost.specs.Tool.{AreDecode, Said, Tool, IsFront};
-ghost use Rattle.plchost.specs.Runs.{Adds, PutsFront, ShelfSeen, InputTaken, StopsEarly};
+ghost use Rattle.plchost.specs.Tool.{AreDecode, Names, Said, Tool, IsFront, input_limit};
+ghost use Rattle.plchost.specs.Runs.{Adds, PutsFront, ShelfSeen, InputTaken, IsReady, StopsEarly};
 
 use crate::closing::{close, say};
 use crate::faults::Cut;
@@ -38,6 +40,9 @@ fn run<F: Shelf, S: Source, K: Sink>(
         × Tool words.now file taken how told
         × Adds (K.held out.old) (K.held out.new) gathered.old.items gathered.new.items told.text
         × (status ≡ told.status)) }
+    ensures files { (other : List ℕ) → F.file files.new other ≡ F.file files.old other }
+    ensures touched { (input.new ≡ input.old) ⊎ ((d : Description) × (def : ℕ)
+        × IsReady words.now (F.faults files.old) (F.faults files.new) F.counts_with (F.file files.old) d def) }
     ensures untouched { IfOk result (λ status. StopsEarly status → input.new ≡ input.old) }
     ensures no_fault { result ≡ Err Cut.WriteFault ⊎ (K.faults out.new ≡ K.faults out.old) }
     ensures no_memory { result ≡ Err Cut.NoMemory → (file : Option (List ℕ)) × (taken : List ℕ) × (how : Option How) × (front : List ℕ)
@@ -111,7 +116,11 @@ fn conclude<F: Shelf, S: Source, K: Sink>(
         × Tool words.now file taken how told
         × (K.held out.new ≡ after_taking told.text (K.held out.old))
         × (result ≡ told.status) }
-    // Where it stops early the input isn't touched.
+    // It leaves every file.
+    ensures files { (other : List ℕ) → F.file files.new other ≡ F.file files.old other }
+    // The input is touched only where the words, the file and the type lead to values, and not where it stops early.
+    ensures touched { (input.new ≡ input.old) ⊎ ((d : Description) × (def : ℕ)
+        × IsReady words.now (F.faults files.old) (F.faults files.new) F.counts_with (F.file files.old) d def) }
     ensures untouched { StopsEarly result → input.new ≡ input.old }
     // Where memory ran out it is a front of that text, and then a line that says so.
     ensures no_memory { result ≡ 8 → (file : Option (List ℕ)) × (taken : List ℕ) × (how : Option How) × (front : List ℕ)
@@ -155,7 +164,11 @@ pub fn tool_main<F: Shelf, S: Source, K: Sink>(
         × Tool words.now file taken how told
         × (K.held out.new ≡ after_taking told.text (K.held out.old))
         × (result ≡ told.status) }
-    // Where it stops early the input isn't touched.
+    // It leaves every file.
+    ensures files { (other : List ℕ) → F.file files.new other ≡ F.file files.old other }
+    // The input is touched only where the words, the file and the type lead to values, and not where it stops early.
+    ensures touched { (input.new ≡ input.old) ⊎ ((d : Description) × (def : ℕ)
+        × IsReady words.now (F.faults files.old) (F.faults files.new) F.counts_with (F.file files.old) d def) }
     ensures untouched { StopsEarly result → input.new ≡ input.old }
     // Where memory ran out it is a front of that text, and then a line that says so.
     ensures no_memory { result ≡ 8 → (file : Option (List ℕ)) × (taken : List ℕ) × (how : Option How) × (front : List ℕ)
@@ -176,12 +189,20 @@ pub fn tool_main<F: Shelf, S: Source, K: Sink>(
     // The words are refused where they aren't those of a command, and nowhere else.
     ensures words_refused { result ≡ 2 → (name kind : List ℕ) → AreDecode words.now name kind → ⊥ }
     ensures only_commands { ((name kind : List ℕ) → AreDecode words.now name kind → ⊥) → (result ≡ 2) ⊎ ((result ≡ 5) ⊎ (result ≡ 8)) }
+    // The text is outside the first form, or has no type of that name.
+    ensures not_built { result ≡ 1 → (name kind text : List ℕ) × AreDecode words.now name kind
+        × IfSome (F.file files.old name) (λ bytes. text ≡ bytes)
+        × ((d : Description) → FirstForm text d → ⊥) }
+    ensures type_refused { result ≡ 12 → (name kind text : List ℕ) × (d : Description) × AreDecode words.now name kind
+        × IfSome (F.file files.old name) (λ bytes. text ≡ bytes)
+        × FirstForm text d × ((def : ℕ) → Names d def kind → ⊥) }
     // The file failed where its count rose, and nowhere else; no other file is asked for.
     ensures file_fault { result ≡ 3 → (name kind : List ℕ) × AreDecode words.now name kind × Rose (F.faults files.old name) (F.faults files.new name) }
     ensures file_failed { (name kind : List ℕ) → AreDecode words.now name kind → F.faults files.old name < F.faults files.new name → (result ≡ 3) ⊎ ((result ≡ 5) ⊎ (result ≡ 8)) }
     ensures other_files { (other : List ℕ) → ((name kind : List ℕ) → AreDecode words.now name kind → F.counts_with name other → ⊥) → F.faults files.new other ≡ F.faults files.old other }
     // A read fault comes only where the input's count rose, and the input ended where all is well or truncated.
     ensures read_fault { result ≡ 4 → Rose (S.faults input.old) (S.faults input.new) }
+    ensures too_long { result ≡ 13 → (taken : List ℕ) × (S.told input.new ≡ after_giving taken (S.told input.old)) × (length taken ≡ 1 + input_limit) }
     ensures whole { (result ≡ 0) ⊎ (result ≡ 7) → Rose (S.ends input.old) (S.ends input.new) }
 {
     conclude(alloc, words, files, input, out)

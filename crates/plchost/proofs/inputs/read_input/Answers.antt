@@ -1,19 +1,47 @@
-use Rattle.std.proofs.Common.{◌++◌, take, ap, sym, ◌∙◌, arith}
+use Rattle.std.proofs.Common.{◌≡◌, ◌+◌, ◌≤◌, ◌++◌, List, length, take, vec_len, length-append, sym, ◌∙◌, arith}
+use Rattle.std.proofs.lemmas.List.{length-take, length-take-le}
 use Rattle.std.proofs.lemmas.Result.{err_from_is_err_and}
-use Rattle.link_io.specs.Streams.{after_giving, after_giving-append}
+use Rattle.plchost.proofs.InputLemmas.{given_more, next_more, taken_so_far}
 use Rattle.plchost.proofs.inputs.read_input.Goals as goal
 
-pub returns-in_err-extend_from_slice : goal.returns-in_err-extend_from_slice
-returns-in_err-extend_from_slice g c =
+pub loop-buffer-preserved : goal.loop-buffer-preserved
+loop-buffer-preserved g c =
     let inv = c.loop-buffer.invariant in
     let bytes = c.loop-buffer.bytes.items in
-    let piece = take c.in-Ok.count c.read.new.to in
-    let enough : c.in-Ok.count ≤ length c.read.new.to = c.in-Ok.ensures.count in
+    let count = c.in-Ok.count in
+    let piece = take count c.read.new.to in
+    let t0 = g.S.Source.told c.args.input.now in
+    let t1 = g.S.Source.told c.loop-buffer.input in
+    let t2 = g.S.Source.told c.read.new.self in
+    let enough : count ≤ length c.read.new.to = c.in-Ok.ensures.count in
+    let long = c.read.auto.to ∙ length-take c.min-room.result c.loop-buffer.buffer in
+    let longer : vec_len c.extend_from_slice.new.self ≡ vec_len c.loop-buffer.bytes + count = omega (arith, c.in_ok-extend_from_slice.ensures.len, length-take-le count c.read.new.to enough) in
+    record {
+      within = omega (arith, longer, enough, long, c.min-room.ensures, c.len-in-loop-buffer.ensures);
+      given = rw c.in_ok-extend_from_slice.ensures.items (given_more t0 t1 t2 bytes piece inv.given c.in-Ok.ensures.given);
+      next = rw c.in_ok-extend_from_slice.ensures.items (next_more t0 t1 bytes piece inv.given inv.next c.in-Ok.ensures.next);
+      ends = c.in-Ok.ensures.no_end (omega arith) ∙ inv.ends;
+      faults = c.in-Ok.ensures.no_fault ∙ inv.faults;
+    }
+
+pub returns-in_err-extend_from_slice-clause-no_memory : goal.returns-in_err-extend_from_slice-clause-no_memory
+returns-in_err-extend_from_slice-clause-no_memory g c =
+    let inv = c.loop-buffer.invariant in
+    let bytes = c.loop-buffer.bytes.items in
+    let count = c.in-Ok.count in
+    let piece = take count c.read.new.to in
+    let t0 = g.S.Source.told c.args.input.now in
+    let t1 = g.S.Source.told c.loop-buffer.input in
+    let t2 = g.S.Source.told c.read.new.self in
+    let enough : count ≤ length c.read.new.to = c.in-Ok.ensures.count in
     let long = c.read.auto.to ∙ length-take c.min-room.result c.loop-buffer.buffer in
     let whole : vec_len c.loop-buffer.bytes ≡ length bytes = omega arith in
+    let most : length (bytes ++ piece) ≤ 16777217 = omega (arith, length-append bytes piece, length-take-le count c.read.new.to enough, enough, long, c.min-room.ensures, c.len-in-loop-buffer.ensures, whole) in
     let p = err_from_is_err_and c.from_residual.result c.from_residual.ensures.1 in
-    rw p.1 (
-      bytes ++ piece,
-      c.in-Ok.ensures.given ∙ ap (after_giving piece) inv.given ∙ sym (after_giving-append bytes piece _),
-      (c.in-Ok.ensures.no_end (omega arith) ∙ inv.ends, c.in-Ok.ensures.no_fault ∙ inv.faults),
-    )
+    rw p.1
+      (taken_so_far t0 t2 (g.S.Source.ends c.args.input.now) (g.S.Source.ends c.read.new.self) (g.S.Source.faults c.args.input.now) (g.S.Source.faults c.read.new.self) (bytes ++ piece)
+        (given_more t0 t1 t2 bytes piece inv.given c.in-Ok.ensures.given)
+        (next_more t0 t1 bytes piece inv.given inv.next c.in-Ok.ensures.next)
+        (c.in-Ok.ensures.no_end (omega arith) ∙ inv.ends)
+        (c.in-Ok.ensures.no_fault ∙ inv.faults)
+        most)

@@ -37,10 +37,10 @@ pub returns-in_err-capture-clause-no_memory : goal.returns-in_err-capture-clause
 returns-in_err-capture-clause-no_memory g c =
     λ (e : _).
     let ready = c.in-Ok.ensures.ready in
-    let taken = c.in_err-capture.ensures in
+    let taken = c.in_err-capture.ensures.no_memory in
     let held = g.K.Sink.held c.args.out.now in
     let t0 = c.args.gathered.now.items in
-    (Some ready.2, taken.0, None, [], ready.4, record { given = taken.1; enough = taken.2; left = taken.3 }, inl refl, Adds-nothing held held t0 t0 refl refl)
+    (Some ready.2, taken.0, taken.1, [], ready.4, taken.2, inl refl, Adds-nothing held held t0 t0 refl refl)
 
 pub put_values-requires-clause-can : goal.put_values-requires-clause-can
 put_values-requires-clause-can g c =
@@ -62,11 +62,11 @@ returns-in_err-rest-clause-no_memory g c =
     let now = c.deref.result.now in
     let n = c.min-counted.result in
     let same = decoded n taken now (vec_len c.in_ok-capture.capture.bytes) c.deref.ensures.value c.deref.ensures.len (c.min-counted.ensures ∙ ap (λ k. min k 16777216) c.len.ensures) in
-    let cap = c.in_ok-capture.ensures in
+    let cap = c.in_ok-capture.ensures.taken in
     λ (e : _).
     let cut = c.in_err-rest.ensures.no_memory (cc) in
     let comes = comes_to_values c.args.words.now ready.0 ready.1 ready.2 taken (take n now) d def (cut.0 ++ cut.1) cut.2 ready.3 ready.5 ready.6 same cut.3 in
-    (Some ready.2, taken, Some c.in_ok-capture.capture.how, listings d def cut.0, ready.4, record { given = cap.0; enough = cap.2; left = cap.1 }, front_of_values c.args.words.now (Some ready.2) taken (Some c.in_ok-capture.capture.how) d def cut.0 cut.1 cut.2 comes, cut.4)
+    (Some ready.2, taken, Some c.in_ok-capture.capture.how, listings d def cut.0, ready.4, cap, front_of_values c.args.words.now (Some ready.2) taken (Some c.in_ok-capture.capture.how) d def cut.0 cut.1 cut.2 comes, cut.4)
 
 pub returns-in_err-rest-clause-cut : goal.returns-in_err-rest-clause-cut
 returns-in_err-rest-clause-cut g c =
@@ -78,11 +78,11 @@ returns-in_err-rest-clause-cut g c =
     let now = c.deref.result.now in
     let n = c.min-counted.result in
     let same = decoded n taken now (vec_len c.in_ok-capture.capture.bytes) c.deref.ensures.value c.deref.ensures.len (c.min-counted.ensures ∙ ap (λ k. min k 16777216) c.len.ensures) in
-    let cap = c.in_ok-capture.ensures in
+    let cap = c.in_ok-capture.ensures.taken in
     λ (e : _).
     let cut = c.in_err-rest.ensures.cut (cc) in
     let comes = comes_to_values c.args.words.now ready.0 ready.1 ready.2 taken (take n now) d def (cut.0 ++ cut.1) cut.2 ready.3 ready.5 ready.6 same cut.3 in
-    (Some ready.2, taken, Some c.in_ok-capture.capture.how, listings d def cut.0, ready.4, record { given = cap.0; enough = cap.2; left = cap.1 }, front_of_values c.args.words.now (Some ready.2) taken (Some c.in_ok-capture.capture.how) d def cut.0 cut.1 cut.2 comes, cut.4)
+    (Some ready.2, taken, Some c.in_ok-capture.capture.how, listings d def cut.0, ready.4, cap, front_of_values c.args.words.now (Some ready.2) taken (Some c.in_ok-capture.capture.how) d def cut.0 cut.1 cut.2 comes, cut.4)
 
 pub returns-in_err-status-clause-no_memory : goal.returns-in_err-status-clause-no_memory
 returns-in_err-status-clause-no_memory g c =
@@ -93,7 +93,7 @@ returns-in_err-status-clause-no_memory g c =
     let now = c.deref.result.now in
     let n = c.min-counted.result in
     let same = decoded n taken now (vec_len c.in_ok-capture.capture.bytes) c.deref.ensures.value c.deref.ensures.len (c.min-counted.ensures ∙ ap (λ k. min k 16777216) c.len.ensures) in
-    let cap = c.in_ok-capture.ensures in
+    let cap = c.in_ok-capture.ensures.taken in
     let values = c.in_ok-rest.ensures.values in
     let how = Some c.in_ok-capture.capture.how in
     let ending = ending_of c.in_ok-rest.rest in
@@ -102,7 +102,7 @@ returns-in_err-status-clause-no_memory g c =
     let h1 = g.K.Sink.held c.put_values.new.out in
     let added = Adds-same h0 h1 h1 c.args.gathered.now.items c.put_values.new.gathered.items c.close.new.gathered.items (listings d def values.0) values.2 refl c.in_err-status.ensures.unchanged in
     λ (e : _).
-    (Some ready.2, taken, how, listings d def values.0, ready.4, record { given = cap.0; enough = cap.2; left = cap.1 }, front_before_last c.args.words.now (Some ready.2) taken how d def values.0 ending comes, added)
+    (Some ready.2, taken, how, listings d def values.0, ready.4, cap, front_before_last c.args.words.now (Some ready.2) taken how d def values.0 ending comes, added)
 
 pub returns-clause-said : goal.returns-clause-said
 returns-clause-said g c =
@@ -113,7 +113,7 @@ returns-clause-said g c =
     let now = c.deref.result.now in
     let n = c.min-counted.result in
     let same = decoded n taken now (vec_len c.in_ok-capture.capture.bytes) c.deref.ensures.value c.deref.ensures.len (c.min-counted.ensures ∙ ap (λ k. min k 16777216) c.len.ensures) in
-    let cap = c.in_ok-capture.ensures in
+    let cap = c.in_ok-capture.ensures.taken in
     let values = c.in_ok-rest.ensures.values in
     let how = c.in_ok-capture.capture.how in
     let ending = ending_of c.in_ok-rest.rest in
@@ -125,7 +125,7 @@ returns-clause-said g c =
     let closed = c.in_ok-status.ensures.closed in
     let last = (last_said (Some how) ending).text in
     let added = Adds-more h0 h1 h1 c.args.gathered.now.items t1 t2 (listings d def values.0) last values.2 (Adds-gathered h1 h1 t1 t2 last refl closed.0) in
-    (Some ready.2, taken, Some how, said (Some how) (Values d def values.0 ending), ready.4, record { given = cap.0; enough = cap.2; left = cap.1 }, values_tool c.args.words.now (Some ready.2) taken how d def values.0 ending comes, added, closed.1)
+    (Some ready.2, taken, Some how, said (Some how) (Values d def values.0 ending), ready.4, cap, values_tool c.args.words.now (Some ready.2) taken how d def values.0 ending comes, added, closed.1)
 
 pub returns-clause-untouched : goal.returns-clause-untouched
 returns-clause-untouched g c =

@@ -1,0 +1,45 @@
+-- What was taken from an input, piece by piece.
+use Rattle.std.proofs.Common.{◌≡◌, ◌≢◌, ℕ, ◌+◌, ◌≤◌, ◌<◌, ◌⊎◌, List, [], ◌++◌, length, Option, Some, None, refl, inl, inr, sym, ap, ◌∙◌, subst, arith}
+use Rattle.plchost.proofs.StatusLemmas.{is_or_not}
+use Rattle.link_io.specs.Counts.{Rose}
+use Rattle.link_io.specs.Streams.{Tape, after_giving, AreNext, IsAtEnd, after_giving-nil, after_giving-append, AreNext-append}
+use Rattle.plchost.specs.declared.inputs.How.{How}
+use Rattle.plchost.specs.declared.inputs.How.TheVariants.{Ended, Failed, Over}
+use Rattle.plchost.specs.Runs.{InputTaken}
+
+-- one more piece
+pub given_more : (t0 t1 t2 : Option Tape) (bytes piece : List ℕ) → t1 ≡ after_giving bytes t0 → t2 ≡ after_giving piece t1 → t2 ≡ after_giving (bytes ++ piece) t0
+given_more t0 t1 t2 bytes piece a b = b ∙ ap (after_giving piece) a ∙ sym (after_giving-append bytes piece t0)
+
+pub next_more : (t0 t1 : Option Tape) (bytes piece : List ℕ) → t1 ≡ after_giving bytes t0 → AreNext bytes t0 → AreNext piece t1 → AreNext (bytes ++ piece) t0
+next_more t0 t1 bytes piece a next more =
+    AreNext-append bytes piece t0 next (subst (λ (t : Option Tape). AreNext piece t) a more)
+
+pub taken_ended : (t0 t1 t2 : Option Tape) (e0 e2 f0 f2 : ℕ) (bytes : List ℕ) → t1 ≡ after_giving bytes t0 → t2 ≡ after_giving [] t1 → AreNext bytes t0 → IsAtEnd t1 → Rose e0 e2 → f2 ≡ f0 → length bytes ≤ 16777216 → InputTaken t0 t2 e0 e2 f0 f2 bytes (Some Ended)
+taken_ended t0 t1 t2 e0 e2 f0 f2 bytes a b next end rose same short =
+    let still = b ∙ after_giving-nil t1 in
+    record {
+      given = still ∙ a;
+      next = next;
+      at_end = λ _. subst (λ (t : Option Tape). IsAtEnd t) (sym still) end;
+      left = (rose, same, short);
+    }
+
+pub taken_failed : (t0 t1 t2 : Option Tape) (e0 e2 f0 f2 : ℕ) (bytes : List ℕ) → t1 ≡ after_giving bytes t0 → t2 ≡ t1 → AreNext bytes t0 → e2 ≡ e0 → Rose f0 f2 → length bytes ≤ 16777216 → InputTaken t0 t2 e0 e2 f0 f2 bytes (Some Failed)
+taken_failed t0 t1 t2 e0 e2 f0 f2 bytes a b next same rose short =
+    record { given = b ∙ a; next = next; at_end = λ e. absurd (let h : Some Failed ≡ Some Ended = e in cc); left = (same, rose, short) }
+
+pub taken_over : (t0 t1 : Option Tape) (e0 e1 f0 f1 : ℕ) (bytes : List ℕ) → t1 ≡ after_giving bytes t0 → AreNext bytes t0 → e1 ≡ e0 → f1 ≡ f0 → length bytes ≡ 16777217 → InputTaken t0 t1 e0 e1 f0 f1 bytes (Some Over)
+taken_over t0 t1 e0 e1 f0 f1 bytes a next ends faults long =
+    record { given = a; next = next; at_end = λ e. absurd (let h : Some Over ≡ Some Ended = e in cc); left = (ends, faults, long) }
+
+-- bytes that memory was wanting for
+below : (n m : ℕ) → n ≤ m + 1 → n ≢ m + 1 → n ≤ m
+below n m most other = omega (arith, most, other)
+
+pub taken_so_far : (t0 t1 : Option Tape) (e0 e1 f0 f1 : ℕ) (bytes : List ℕ) → t1 ≡ after_giving bytes t0 → AreNext bytes t0 → e1 ≡ e0 → f1 ≡ f0 → length bytes ≤ 16777217 → (taken : List ℕ) × (how : Option How) × InputTaken t0 t1 e0 e1 f0 f1 taken how
+taken_so_far t0 t1 e0 e1 f0 f1 bytes a next ends faults most =
+    elim (is_or_not (length bytes) 16777217) [
+      inl long ↦ (bytes, Some Over, taken_over t0 t1 e0 e1 f0 f1 bytes a next ends faults long)
+      | inr other ↦ (bytes, None, record { given = a; next = next; at_end = λ e. absurd (let h : None ≡ Some Ended = e in cc); left = (ends, faults, below (length bytes) 16777216 most other) })
+    ]
