@@ -5,5 +5,5 @@ mod laws;
 mod numbers;
 mod reading;
 
-pub use laws::one_reading;
+pub use laws::{more_bits, one_reading};
 pub use reading::read_plain;
