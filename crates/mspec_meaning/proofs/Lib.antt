@@ -1,3 +1,4 @@
 pub mod FieldLemmas
 pub mod NumberLemmas
+pub mod OneOutcome
 pub mod TotalLaws

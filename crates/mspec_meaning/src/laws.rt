@@ -1,0 +1,19 @@
+ghost use Rattle.std.specs.Prelude.{ℕ, ℤ, ◌≡◌, ◌++◌, Bool, List, Result, Ok, Err};
+ghost use Rattle.node_tree.specs.declared.readings.Reading.{Reading};
+ghost use Rattle.node_tree.specs.declared.faults.ReadWhy.{ReadWhy};
+ghost use Rattle.mspec_tree.specs.declared.defs.Description.{Description};
+ghost use Rattle.mspec_meaning.specs.Reads.{Reads, Fault, Bad};
+
+/// Bits have at most one outcome by a description.
+pub fn one_reading()
+    ensures { (d : Description) (def : ℕ) (args : List ℤ) (bits : List Bool) (one other : Result Reading Fault)
+        → Reads d def args bits one → Reads d def args bits other → one ≡ other }
+{}
+
+/// More bits behind a value leave it as it is, and a refusal too; only a reading that ended too early may change.
+pub fn more_bits()
+    ensures read { (d : Description) (def : ℕ) (args : List ℤ) (bits more : List Bool) (reading : Reading)
+        → Reads d def args bits (Ok reading) → Reads d def args (bits ++ more) (Ok reading) }
+    ensures bad { (d : Description) (def : ℕ) (args : List ℤ) (bits more : List Bool) (bit : ℕ) (why : ReadWhy)
+        → Reads d def args bits (Err (Bad bit why)) → Reads d def args (bits ++ more) (Err (Bad bit why)) }
+{}
