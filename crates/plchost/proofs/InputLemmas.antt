@@ -40,6 +40,6 @@ below n m most other = omega (arith, most, other)
 pub taken_so_far : (t0 t1 : Option Tape) (e0 e1 f0 f1 : ℕ) (bytes : List ℕ) → t1 ≡ after_giving bytes t0 → AreNext bytes t0 → e1 ≡ e0 → f1 ≡ f0 → length bytes ≤ 16777217 → (taken : List ℕ) × (how : Option How) × InputTaken t0 t1 e0 e1 f0 f1 taken how
 taken_so_far t0 t1 e0 e1 f0 f1 bytes a next ends faults most =
     elim (is_or_not (length bytes) 16777217) [
-      inl long ↦ (bytes, Some Over, taken_over t0 t1 e0 e1 f0 f1 bytes a next ends faults long)
+      | inl long ↦ (bytes, Some Over, taken_over t0 t1 e0 e1 f0 f1 bytes a next ends faults long)
       | inr other ↦ (bytes, None, record { given = a; next = next; at_end = λ e. absurd (let h : None ≡ Some Ended = e in cc); left = (ends, faults, below (length bytes) 16777216 most other) })
     ]

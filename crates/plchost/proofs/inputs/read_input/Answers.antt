@@ -39,9 +39,9 @@ returns-in_err-extend_from_slice-clause-no_memory g c =
     let most : length (bytes ++ piece) ≤ 16777217 = omega (arith, length-append bytes piece, length-take-le count c.read.new.to enough, enough, long, c.min-room.ensures, c.len-in-loop-buffer.ensures, whole) in
     let p = err_from_is_err_and c.from_residual.result c.from_residual.ensures.1 in
     rw p.1
-      (taken_so_far t0 t2 (g.S.Source.ends c.args.input.now) (g.S.Source.ends c.read.new.self) (g.S.Source.faults c.args.input.now) (g.S.Source.faults c.read.new.self) (bytes ++ piece)
-        (given_more t0 t1 t2 bytes piece inv.given c.in-Ok.ensures.given)
-        (next_more t0 t1 bytes piece inv.given inv.next c.in-Ok.ensures.next)
-        (c.in-Ok.ensures.no_end (omega arith) ∙ inv.ends)
-        (c.in-Ok.ensures.no_fault ∙ inv.faults)
-        most)
+    (taken_so_far t0 t2 (g.S.Source.ends c.args.input.now) (g.S.Source.ends c.read.new.self) (g.S.Source.faults c.args.input.now) (g.S.Source.faults c.read.new.self) (bytes ++ piece)
+    (given_more t0 t1 t2 bytes piece inv.given c.in-Ok.ensures.given)
+    (next_more t0 t1 bytes piece inv.given inv.next c.in-Ok.ensures.next)
+    (c.in-Ok.ensures.no_end (omega arith) ∙ inv.ends)
+    (c.in-Ok.ensures.no_fault ∙ inv.faults)
+    most)
