@@ -5,6 +5,7 @@ pub mod FormReads
 pub mod FrontLemmas
 pub mod Fronts
 pub mod ListingLemmas
+pub mod NoRefusal
 pub mod RunLemmas
 pub mod StatusLemmas
 pub mod StreamLemmas
