@@ -6,6 +6,7 @@ pub mod FrontLemmas
 pub mod Fronts
 pub mod InputLemmas
 pub mod ListingLemmas
+pub mod NoRefusal
 pub mod RunLemmas
 pub mod StatusLemmas
 pub mod StreamLemmas
