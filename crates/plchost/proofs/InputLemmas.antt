@@ -1,5 +1,5 @@
 -- What was taken from an input, piece by piece.
-use Rattle.std.proofs.Common.{◌≡◌, ◌≢◌, ℕ, ◌+◌, ◌≤◌, ◌<◌, ◌⊎◌, List, [], ◌++◌, length, Option, Some, None, refl, inl, inr, sym, ap, ◌∙◌, subst, arith}
+use Rattle.std.proofs.Common.{◌≡◌, ◌≢◌, ℕ, ◌+◌, ◌≤◌, List, [], ◌++◌, length, Option, Some, None, inl, inr, sym, ap, ◌∙◌, subst, arith}
 use Rattle.plchost.proofs.StatusLemmas.{is_or_not}
 use Rattle.link_io.specs.Counts.{Rose}
 use Rattle.link_io.specs.Streams.{Tape, after_giving, AreNext, IsAtEnd, after_giving-nil, after_giving-append, AreNext-append}

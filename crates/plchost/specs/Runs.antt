@@ -1,5 +1,5 @@
 -- What a run of the program did with its streams, as they tell it and by their counts.
-use Rattle.std.specs.Prelude.{ℕ, ◌≡◌, ◌+◌, ◌<◌, ◌≤◌, ◌⊎◌, List, ◌++◌, length, Option, Some, None, IfSome}
+use Rattle.std.specs.Prelude.{ℕ, ◌≡◌, ◌+◌, ◌≤◌, ◌⊎◌, List, ◌++◌, length, Option, Some, None, IfSome}
 use Rattle.link_io.specs.Counts.{Rose}
 use Rattle.link_io.specs.Streams.{Tape, after_giving, AreNext, IsAtEnd, after_taking}
 use Rattle.plchost.specs.declared.inputs.How.{How}

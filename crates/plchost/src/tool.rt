@@ -202,6 +202,8 @@ pub fn tool_main<F: Shelf, S: Source, K: Sink>(
     ensures other_files { (other : List ℕ) → ((name kind : List ℕ) → AreDecode words.now name kind → F.counts_with name other → ⊥) → F.faults files.new other ≡ F.faults files.old other }
     // A read fault comes only where the input's count rose, and the input ended where all is well or truncated.
     ensures read_fault { result ≡ 4 → Rose (S.faults input.old) (S.faults input.new) }
+    // No value by a description in the first form is refused.
+    ensures none_refused { result ≢ 6 }
     ensures too_long { result ≡ 13 → (taken : List ℕ) × (S.told input.new ≡ after_giving taken (S.told input.old)) × (length taken ≡ 1 + input_limit) }
     ensures whole { (result ≡ 0) ⊎ (result ≡ 7) → Rose (S.ends input.old) (S.ends input.new) }
 {

@@ -1,6 +1,7 @@
 use Rattle.std.proofs.Common.{◌≡◌, ◌≢◌, ℕ, ◌⊎◌, true, inl, inr, ap, sym, ◌∙◌, arith}
 use Rattle.plchost.specs.Tool.{Said}
 use Rattle.plchost.proofs.StatusLemmas.{words_at_2, only_words, fault_at_3, rose_at_none, none_at_rise, only_fault, rose_at_4, ended_at, is_or_not, is_end, refused_at_12, text_seen_of}
+use Rattle.plchost.proofs.NoRefusal.{no_status_6}
 use Rattle.plchost.proofs.tool.tool_main.Goals as goal
 
 pub returns-clause-words_refused : goal.returns-clause-words_refused
@@ -84,3 +85,10 @@ returns-clause-type_refused g c =
     let tool = s.6 in
     let f = refused_at_12 c.args.words.now s.0 s.1 s.2 tool.0 tool.1 (ap (λ (t : Said). t.status) (sym tool.3) ∙ sym s.8 ∙ twelve) in
     (f.0, f.1, f.2, f.3, f.4, text_seen_of f.0 (g.F.Shelf.faults c.args.files.now) (g.F.Shelf.faults c.conclude.new.files) (g.F.Shelf.file c.args.files.now f.0) s.0 f.2 f.5 (s.4.named f.0 f.1 f.4), f.6, f.7)
+
+pub returns-clause-none_refused : goal.returns-clause-none_refused
+returns-clause-none_refused g c =
+    λ (six : _).
+    let s = c.conclude.ensures.said (λ e. absurd (omega (arith, e, six))) (λ e. absurd (omega (arith, e, six))) in
+    let tool = s.6 in
+    no_status_6 c.args.words.now s.0 s.1 s.2 tool.0 tool.1 (ap (λ (t : Said). t.status) (sym tool.3) ∙ sym s.8 ∙ six)
