@@ -4,8 +4,8 @@ use Rattle.std.specs.List.{range_with_len}
 use Rattle.std.proofs.lemmas.Bool.Decides.{nat_tests}
 use Rattle.std.proofs.lemmas.List.FromFn.{length-range_with_len}
 use Rattle.conn_core.specs.Finds.{weight_of}
-use Rattle.conn_core.specs.Rooms.{Capacities, IsKept, IsRoomy, IsSettings, IsUnderWay, capacities_of, lists_of, zero_reference}
-use Rattle.conn_core.specs.Tables.{Table, opening}
+use Rattle.conn_core.specs.Rooms.{Capacities, IsKept, IsRoomy, IsUnderWay, capacities_of, lists_of, zero_reference}
+use Rattle.conn_core.specs.Tables.{IsSettings, Table, opening}
 use Rattle.conn_core.specs.declared.kept.Kept.{Kept}
 use Rattle.conn_core.specs.declared.rows.Lease.{Lease}
 use Rattle.conn_core.specs.declared.rows.Row.{Row}

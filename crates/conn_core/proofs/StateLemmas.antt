@@ -6,10 +6,11 @@ use Rattle.wire_frames.specs.declared.ends.Reason.{Reason}
 use Rattle.wire_frames.specs.declared.ends.Reason.TheVariants as reasons
 use Rattle.conn_core.specs.Finds.{weight_of}
 use Rattle.conn_core.specs.Journals.{Legal, opened, turned, after_entries, after_entry, after_step, is_worn, settled, settled_if, table_of, turn_if, turn_of, wears, worn_entry}
-use Rattle.conn_core.specs.Rooms.{IsKept, IsSettings, Stays, Turns, TurnsAs, lists_of, unasked}
-use Rattle.conn_core.specs.States.{Grows, IsState, grown}
+use Rattle.conn_core.specs.Rooms.{IsKept, Stays, Turns, TurnsAs, lists_of, unasked}
+use Rattle.conn_core.specs.KeptStates.{IsState}
+use Rattle.conn_core.specs.States.{Grows, grown}
 use Rattle.conn_core.specs.Steps.{IsGiven, Started, accepted_of, answer_of, closed_by, started_answer, step, table_or, taken, when_open}
-use Rattle.conn_core.specs.Tables.{Connection, Table, is_open, opening}
+use Rattle.conn_core.specs.Tables.{IsSettings, Connection, Table, is_open, opening}
 use Rattle.conn_core.specs.declared.answers.Accepted.{Accepted}
 use Rattle.conn_core.specs.declared.answers.SubmitRefusal.{SubmitRefusal}
 use Rattle.conn_core.specs.declared.answers.SubmitRefusal.TheVariants as submits

@@ -2,6 +2,7 @@ pub mod Ends
 pub mod Finds
 pub mod HistoryLaw
 pub mod Journals
+pub mod KeptStates
 pub mod LeaseLists
 pub mod Requests
 pub mod Rooms

@@ -1,5 +1,5 @@
 -- Room: what the rows, leases and references that stand can still cause never wants memory.
-use Rattle.std.specs.Prelude.{◌≡◌, ℕ, ◌+◌, ◌*◌, ◌≤◌, ◌<◌, ◌^◌, ◌==◌, ◌++◌, true, false, if◌then◌else◌, List, length, Result, Ok, Err, Bool, vec_len}
+use Rattle.std.specs.Prelude.{◌≡◌, ℕ, ◌+◌, ◌*◌, ◌≤◌, ◌<◌, ◌==◌, ◌++◌, true, false, if◌then◌else◌, List, length, Result, Ok, Err, Bool, vec_len}
 use Rattle.std.specs.Vec.{vec_capacity}
 use Rattle.std.specs.VecDeque.{deque_capacity}
 use Rattle.wire_frames.specs.declared.asks.Ask.{Ask}
@@ -54,15 +54,6 @@ closes_of t = if is_open t then 1 else 0
 -- a lease that is held can go, a waiter can be granted and then go
 abbrev pub needs_of : Lists → ℕ
 needs_of t = weight_of entries_of t.rows + length t.held + 2 * length t.waiting + closes_of t
-
--- the settings that a connection may have
-pub record IsSettings (s : Settings) : Type 0 where
-  pub references : (1 ≤ s.references) × (s.references < 2 ^ 16)
-  pub window : (1 ≤ s.window) × (s.window ≤ 64)
-  pub share : (1 ≤ s.share) × (s.share ≤ 64)
-  pub journal : (64 ≤ s.journal) × (s.journal ≤ 262144)
-  pub lease_ms : (1 ≤ s.lease_ms) × (s.lease_ms ≤ 86400000)
-  pub wait_ms : (1 ≤ s.wait_ms) × (s.wait_ms ≤ 86400000)
 
 -- the capacities of the lists that grow without taking memory
 pub record Capacities : Type 0 where

@@ -1,15 +1,12 @@
 -- What contracts see of a connection's state, and what each call does to it.
 use Rattle.std.specs.Prelude.{◌≡◌, ◌⊎◌, ℕ, ◌+◌, List, [], ◌∷◌, ◌++◌, length, Option, Some, None}
 use Rattle.wire_frames.specs.WireMeaning.{WireMeaning}
-use Rattle.conn_core.specs.Finds.{weight_of}
-use Rattle.conn_core.specs.Journals.{Legal, table_of, turn_of, worn_entry}
-use Rattle.conn_core.specs.Rooms.{IsKept, IsSettings, lists_of, unasked}
+use Rattle.conn_core.specs.Journals.{table_of, turn_of, worn_entry}
 use Rattle.conn_core.specs.Steps.{step}
 use Rattle.conn_core.specs.Tables.{Connection, Table}
 use Rattle.conn_core.specs.declared.entries.Answer.{Answer}
 use Rattle.conn_core.specs.declared.entries.Entry.{Entry}
 use Rattle.conn_core.specs.declared.entries.Event.{Event}
-use Rattle.conn_core.specs.declared.kept.Kept.{Kept}
 use Rattle.conn_core.specs.declared.settings.Settings.{Settings}
 
 -- what is fixed for a connection: the wire and the settings
@@ -50,11 +47,3 @@ Grows actor old new =
     (new ≡ old)
     ⊎ ((e : Entry) × (e.actor ≡ actor) × (new ≡ old ++ e ∷ []))
     ⊎ ((e : Entry) × (e.actor ≡ actor) × (new ≡ old ++ e ∷ worn_entry actor ∷ []))
-
--- the rows and all the rest are the table of the journal, and the journal is legal
-pub record IsState (c : Connection) (kept : Kept) : Type 0 where
-  pub settings : IsSettings c.settings
-  pub room : IsKept c.settings kept
-  pub legal : Legal c kept.journal.items
-  pub table : table_of c kept.journal.items ≡ lists_of kept.table
-  pub asks : weight_of (unasked c.wire.admits) kept.table.rows.items ≡ 0

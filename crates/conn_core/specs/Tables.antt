@@ -1,5 +1,5 @@
 -- The table of a connection: plain lists.
-use Rattle.std.specs.Prelude.{ℕ, ◌+◌, ◌-◌, ◌^◌, min, max, Bool, true, false, ◌&&◌, ◌==◌, cond, List, [], ◌∷◌, Option, Some, None}
+use Rattle.std.specs.Prelude.{ℕ, ◌+◌, ◌-◌, ◌^◌, ◌<◌, ◌≤◌, min, max, Bool, true, false, ◌&&◌, ◌==◌, cond, List, [], ◌∷◌, Option, Some, None}
 use Rattle.std.specs.List.{range_with_len, list_any}
 use Rattle.wire_frames.specs.WireMeaning.{WireMeaning}
 use Rattle.wire_frames.specs.declared.ends.EndKind.TheVariants.{Lost}
@@ -15,6 +15,15 @@ use Rattle.conn_core.specs.declared.settings.Settings.{Settings}
 pub record Connection : Type 0 where
   pub wire : WireMeaning
   pub settings : Settings
+
+-- the settings that a connection may have; times are in milliseconds
+pub record IsSettings (s : Settings) : Type 0 where
+  pub references : (1 ≤ s.references) × (s.references < 2 ^ 16)
+  pub window : (1 ≤ s.window) × (s.window ≤ 64)
+  pub share : (1 ≤ s.share) × (s.share ≤ 64)
+  pub journal : (64 ≤ s.journal) × (s.journal ≤ 262144)
+  pub lease_ms : (1 ≤ s.lease_ms) × (s.lease_ms ≤ 86400000)
+  pub wait_ms : (1 ≤ s.wait_ms) × (s.wait_ms ≤ 86400000)
 
 -- Rows stand in the order in which they were accepted, so by rising id; free references in the order in which they are
 -- drawn; quarantined references in the order in which they were put out; leases and waiters in their order.

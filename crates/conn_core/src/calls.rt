@@ -1,6 +1,7 @@
 ghost use Rattle.std.specs.Prelude.{◌≡◌, ◌+◌, ◌≤◌, ◌<◌, IfOk, OnOk, OnErr, vec_len, Ok};
 ghost use Rattle.std.specs.Vec.{vec_capacity};
-ghost use Rattle.conn_core.specs.Rooms.{HasTurnRoom, IsKept, IsSettings, Stays, Turns, capacities_of, lists_of};
+ghost use Rattle.conn_core.specs.Tables.{IsSettings};
+ghost use Rattle.conn_core.specs.Rooms.{HasTurnRoom, IsKept, Stays, Turns, capacities_of, lists_of};
 ghost use Rattle.conn_core.specs.Steps.{IsGiven, answer_of, ask_lease, asked_answer, cancel, collect, table_or, take_send};
 ghost use Rattle.conn_core.specs.declared.entries.Answer.TheVariants as answers;
 ghost use Rattle.conn_core.specs.declared.entries.Event.TheVariants as events;

@@ -1,6 +1,6 @@
 ghost use Rattle.std.specs.Prelude.{◌≡◌, ◌+◌, ◌<◌, ◌≤◌, ◌^◌, [], length, ◌⊎◌, Err, IfOk, OnErr, IsTrue};
 ghost use Rattle.conn_core.specs.Journals.{Legal};
-ghost use Rattle.conn_core.specs.Rooms.{IsSettings};
+ghost use Rattle.conn_core.specs.Tables.{IsSettings};
 ghost use Rattle.conn_core.specs.Steps.{IsGiven, accepted_of, answer_of, apply_frame, ask_lease, cancel, collect, submit, take_send};
 ghost use Rattle.conn_core.specs.States.{Grows, connection_of, state_after, table_in};
 ghost use Rattle.conn_core.specs.declared.entries.Event.TheVariants as events;
@@ -29,7 +29,8 @@ pub struct ConnState<W: Wire> {
 }
 
 impl<W: Wire> Model for ConnState<W> {
-    ghost use Rattle.conn_core.specs.States.{IsState, Key, State, connection_of};
+    ghost use Rattle.conn_core.specs.KeptStates.{IsState};
+    ghost use Rattle.conn_core.specs.States.{Key, State, connection_of};
 
     ghost Value = { State W };
 

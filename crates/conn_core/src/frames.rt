@@ -1,6 +1,7 @@
 ghost use Rattle.std.specs.Prelude.{◌≡◌, ◌<◌, ◌≤◌, IfOk, OnOk, OnErr, vec_len};
 ghost use Rattle.conn_core.specs.Finds.{weight_of};
-ghost use Rattle.conn_core.specs.Rooms.{HasTurnRoom, IsKept, IsSettings, Stays, TurnsAs, capacities_of, lists_of, unasked};
+ghost use Rattle.conn_core.specs.Tables.{IsSettings};
+ghost use Rattle.conn_core.specs.Rooms.{HasTurnRoom, IsKept, Stays, TurnsAs, capacities_of, lists_of, unasked};
 ghost use Rattle.conn_core.specs.Steps.{IsGiven, answer_of, apply_frame, frame_answer};
 ghost use Rattle.conn_core.specs.declared.entries.Event.TheVariants as events;
 

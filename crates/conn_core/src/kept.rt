@@ -4,8 +4,8 @@ ghost use Rattle.std.specs.Vec.{vec_capacity};
 ghost use Rattle.std.specs.VecDeque.{deque_len, deque_capacity};
 ghost use Rattle.conn_core.specs.Finds.{weight_of};
 ghost use Rattle.conn_core.specs.Journals.{settled, turn_of, wears, worn_entry};
-ghost use Rattle.conn_core.specs.Rooms.{CanTurn, IsKept, IsSettings, Turns, capacities_of, closes_of, lists_of, references_kept};
-ghost use Rattle.conn_core.specs.Tables.{is_open, opening};
+ghost use Rattle.conn_core.specs.Rooms.{CanTurn, IsKept, Turns, capacities_of, closes_of, lists_of, references_kept};
+ghost use Rattle.conn_core.specs.Tables.{IsSettings, is_open, opening};
 
 use crate::closing::close;
 use crate::entries::{Answer, Entry, Event};
