@@ -1,7 +1,7 @@
 #!/usr/bin/env python3
 """Measures `plchost decode` on made input, beside a small C program for the same work.
 
-    python3 bench/decode.py            # after `rt ci` or `rt run plchost`, which leave the proved program
+    python3 bench/decode.py            # after `rt ci`, or `rt run` in crates/plchost, which leave the proved program
 
 For 1, 4 and 16 MiB it prints the bytes per second of processor time (the least of five runs, the empty run's taken
 off), the peak memory, and the ratio of the time per byte at 16 MiB to that at 1 MiB. The C program is compiled with
@@ -21,37 +21,51 @@ RUNS = 5
 
 
 def run(command, path):
-    """The processor seconds, peak KiB and status of one run."""
+    """The processor seconds and the status of one run."""
     with open(path, "rb") as stdin, open(os.devnull, "wb") as sink:
         child = subprocess.Popen(command, stdin=stdin, stdout=sink)
         _, status, usage = os.wait4(child.pid, 0)
-        child.returncode = 0
-    return usage.ru_utime + usage.ru_stime, usage.ru_maxrss, os.waitstatus_to_exitcode(status)
+        child.returncode = os.waitstatus_to_exitcode(status)
+    return usage.ru_utime + usage.ru_stime, child.returncode
 
 
 def least(command, path):
+    """The least processor seconds of some runs, and the status of the first."""
     runs = [run(command, path) for _ in range(RUNS)]
-    return min(r[0] for r in runs), max(r[1] for r in runs), runs[0][2]
+    return min(seconds for seconds, _ in runs), runs[0][1]
+
+
+def peak(command, path):
+    """The peak KiB of one run, as the system told it last before the run ended."""
+    highest = 0
+    with open(path, "rb") as stdin, open(os.devnull, "wb") as sink:
+        child = subprocess.Popen(command, stdin=stdin, stdout=sink)
+        while child.poll() is None:
+            with open(f"/proc/{child.pid}/status") as lines:
+                told = [int(line.split()[1]) for line in lines if line.startswith("VmHWM:")]
+            highest = max([highest, *told])
+    return highest
 
 
 def measure(name, command, folder):
     empty = os.path.join(folder, "empty")
     open(empty, "wb").close()
-    base, _, _ = least(command, empty)
+    base, _ = least(command, empty)
     per_byte = {}
     for size in SIZES:
         path = os.path.join(folder, f"{size}")
-        seconds, peak, status = least(command, path)
+        seconds, status = least(command, path)
         spent = max(seconds - base, 1e-9)
         per_byte[size] = spent / (size * MIB)
-        print(f"{name:8} {size:3} MiB  {size * MIB / spent / 1e6:8.2f} MB/s  peak {peak / 1024:7.1f} MiB  status {status}")
+        memory = peak(command, path) / 1024
+        print(f"{name:8} {size:3} MiB  {size * MIB / spent / 1e6:8.2f} MB/s  peak {memory:7.1f} MiB  status {status}")
     print(f"{name:8} time per byte at 16 MiB to that at 1 MiB: {per_byte[16] / per_byte[1]:.2f}")
     return per_byte
 
 
 def main():
     if not os.path.exists(PROGRAM):
-        sys.exit("no proved program yet: run `rt ci` or `rt run plchost` first")
+        sys.exit("no proved program yet: run `rt ci`, or `rt run` in crates/plchost, first")
     with tempfile.TemporaryDirectory() as folder:
         description = os.path.join(folder, "p")
         with open(description, "w") as text:
