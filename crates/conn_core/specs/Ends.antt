@@ -46,7 +46,7 @@ pub record FrameComes (c : Connection) (journal : List Entry) (k reference : ℕ
   pub reads : c.wire.reading_of bytes ≡ Ok reading
   pub refers : c.wire.reference_of bytes ≡ reference
 
--- the moment of an event that has one, else none
+-- the clock after an event: where it has a moment that is later, that
 abbrev pub clock_by : ℕ → Event → ℕ
 clock_by clock (events.AskLease now) = max clock now
 clock_by clock (events.Release lease now) = max clock now

@@ -51,12 +51,15 @@ abbrev pub occurrences : ℕ → List ℕ → ℕ
 occurrences n ns = count_by (λ m. m == n) ns
 
 pub record HistoryLaw (c : Connection) (journal : List Entry) : Type 0 where
+  -- An id is accepted once.
+  pub accepted_once : (id : ℕ) (r other : Submitted journal id) → r.place ≡ other.place
   -- A frame that is answered by a request's end, and a cancellation, stand where the request ends.
   pub answered_ends : (k actor : ℕ) (bytes : List ℕ) (id : ℕ) (kind : EndKind) → Stands journal k actor (events.Frame bytes) (answers.Ended id kind) → (r : Submitted journal id) × IsEndPlace c journal id r k kind
   pub cancelled_ends : (k actor id : ℕ) → Stands journal k actor (events.Cancel id) answers.Cancelled → (r : Submitted journal id) × IsEndPlace c journal id r k kinds.Cancelled
   -- A collection stands after the end, gives its kind, and stands once.
-  pub collected_after : (k actor id : ℕ) (kind : EndKind) → Stands journal k actor (events.Collect id) (answers.Collected kind) → (r : Submitted journal id) × (j : ℕ) × (j < k) × IsEndPlace c journal id r j kind
-  pub collected_once : (j k a b id : ℕ) (kind other : EndKind) → Stands journal j a (events.Collect id) (answers.Collected kind) → Stands journal k b (events.Collect id) (answers.Collected other) → j ≡ k
+  pub collected_after : (k actor id : ℕ) (answer : Answer) → Stands journal k actor (events.Collect id) answer
+      → (kind : EndKind) × (answer ≡ answers.Collected kind) × (r : Submitted journal id) × (j : ℕ) × (j < k) × IsEndPlace c journal id r j kind
+  pub collected_once : (j k a b id : ℕ) (answer other : Answer) → Stands journal j a (events.Collect id) answer → Stands journal k b (events.Collect id) other → j ≡ k
   -- Once the connection is closed every request has ended.
   pub all_end : (k : ℕ) (e : Entry) → slice_get journal k ≡ Some e → closes e ≡ true → (id : ℕ) (r : Submitted journal id) → (j : ℕ) × (kind : EndKind) × IsEndPlace c journal id r j kind
   -- A frame ends a request only after its sending, with its reference, and as the frame's reading fits its ask.

@@ -51,7 +51,7 @@ references_kept row = phase_references row.phase
 abbrev pub closes_of : Lists → ℕ
 closes_of t = if is_open t then 1 else 0
 
--- a lease that is held can go, a waiter can be granted and then go
+-- a lease that is held can go; a waiter is counted twice, which is more than it needs
 abbrev pub needs_of : Lists → ℕ
 needs_of t = weight_of entries_of t.rows + length t.held + 2 * length t.waiting + closes_of t
 

@@ -6,7 +6,7 @@ use node_tree::OwnedList;
 use std::alloc::Global;
 use std::process::Abort;
 use std::test::Fail;
-use wire_frames::{Ask, EndKind, RawWire, Wire};
+use wire_frames::{Ask, EndKind, FrameWhy, PlcValue, RawWire, Reason, Wire};
 
 /// A line of a script, by actor 1 where it has one.
 #[derive(Clone, Copy)]
@@ -18,7 +18,7 @@ enum Line {
     Collect(u64),
 }
 
-/// What it is answered. A sending is told by its id and its frame's last three bytes.
+/// What it is answered. A sending is told by its id and its reference.
 #[derive(Clone, Copy, Debug, PartialEq, Eq)]
 enum Said {
     Started(u64, u16),
@@ -81,6 +81,27 @@ fn play<W: Wire>(
     }
 }
 
+fn check_lines<W: Wire>(
+    rt: &impl Abort,
+    alloc: Global,
+    state: &mut ConnState<W>,
+    lines: &[(Line, Said)],
+) -> Result<(), Fail> {
+    for (line, said) in lines {
+        assert_eq!(rt; play(rt, alloc, state, *line)?, *said);
+    }
+    Ok(())
+}
+
+fn check_asked<W: Wire>(
+    rt: &impl Abort,
+    state: &mut ConnState<W>,
+    actor: u32,
+    wanted: Result<LeaseAnswer, AskRefusal>,
+) {
+    assert_eq!(rt; state.ask_lease(actor, 0), wanted);
+}
+
 /// Takes what may go to another thread.
 fn across<T: Send>(value: T) -> T {
     value
@@ -103,16 +124,15 @@ fn run(
         wait_ms: 60000,
     };
     let mut state = across(ConnState::new(alloc, RawWire, settings)?);
-    let granted: Result<LeaseAnswer, AskRefusal> = Ok(LeaseAnswer::Granted { lease: 1 });
-    assert_eq!(rt; state.ask_lease(1, 0), granted);
-    for (line, said) in lines {
-        assert_eq!(rt; play(rt, alloc, &mut state, *line)?, *said);
-    }
+    check_asked(rt, &mut state, 1, GRANTED);
+    check_lines(rt, alloc, &mut state, lines)?;
     assert_eq!(rt; state.closed(), None);
     assert_eq!(rt; state.journal().len(), entries);
     assert_eq!(rt; across(state.into_journal()).len(), entries);
     Ok(())
 }
+
+const GRANTED: Result<LeaseAnswer, AskRefusal> = Ok(LeaseAnswer::Granted { lease: 1 });
 
 const SUBMIT: Line = Line::Submit { lease: 1 };
 
@@ -218,4 +238,172 @@ fn an_empty_reply_is_a_mismatch(rt: HostRuntime) -> Result<(), Fail> {
         (Line::Collect(1), Said::Collected(mismatch)),
     ];
     run(&rt, rt.alloc(), 2, &lines, 5)
+}
+
+#[test]
+fn a_full_journal_closes_the_table(rt: HostRuntime) -> Result<(), Fail> {
+    let alloc = rt.alloc();
+    let settings = Settings {
+        references: 2,
+        window: 8,
+        share: 1,
+        journal: 64,
+        lease_ms: 60000,
+        wait_ms: 60000,
+    };
+    let mut state = ConnState::new(alloc, RawWire, settings)?;
+    check_asked(&rt, &mut state, 1, GRANTED);
+    for id in 1u64..21 {
+        let reference = if id % 2 == 1 { 1 } else { 2 };
+        let lines = [
+            (SUBMIT, Said::Started(id, reference)),
+            (Line::Cancel(id), Said::Cancelled),
+            (Line::Collect(id), Said::Collected(EndKind::Cancelled)),
+        ];
+        check_lines(&rt, alloc, &mut state, &lines)?;
+    }
+    let worn = SubmitRefusal::Closed(Reason::Worn);
+    let lines = [
+        (SUBMIT, Said::Started(21, 1)),
+        (SUBMIT, Said::Started(22, 2)),
+        (Line::Cancel(21), Said::Cancelled),
+        (Line::Collect(21), Said::Collected(EndKind::Cancelled)),
+        (
+            Line::Collect(22),
+            Said::Collected(EndKind::Lost(Reason::Worn)),
+        ),
+        (SUBMIT, Said::NotStarted(worn)),
+    ];
+    check_lines(&rt, alloc, &mut state, &lines)?;
+    assert_eq!(rt; state.closed(), Some(Reason::Worn));
+    assert_eq!(rt; state.journal().len(), 67);
+    Ok(())
+}
+
+#[test]
+fn at_most_64_wait(rt: HostRuntime) -> Result<(), Fail> {
+    let settings = Settings {
+        references: 2,
+        window: 8,
+        share: 1,
+        journal: 256,
+        lease_ms: 100,
+        wait_ms: 50,
+    };
+    let mut state = ConnState::new(rt.alloc(), RawWire, settings)?;
+    check_asked(&rt, &mut state, 1, GRANTED);
+    for place in 0u8..64 {
+        let lease = u64::from(place) + 2;
+        check_asked(
+            &rt,
+            &mut state,
+            1,
+            Ok(LeaseAnswer::Waiting { lease, place }),
+        );
+    }
+    check_asked(&rt, &mut state, 1, Err(AskRefusal::QueueFull));
+    assert_eq!(rt; state.journal().len(), 65);
+    Ok(())
+}
+
+#[test]
+fn at_most_1024_rows_are_kept(rt: HostRuntime) -> Result<(), Fail> {
+    let alloc = rt.alloc();
+    let settings = Settings {
+        references: 2000,
+        window: 8,
+        share: 1,
+        journal: 262144,
+        lease_ms: 60000,
+        wait_ms: 60000,
+    };
+    let mut state = ConnState::new(alloc, RawWire, settings)?;
+    check_asked(&rt, &mut state, 1, GRANTED);
+    for id in 1u16..1025 {
+        let said = submit(alloc, &mut state, 1)?;
+        assert_eq!(rt; said, Said::Started(u64::from(id), id));
+    }
+    let full = Said::NotStarted(SubmitRefusal::TableFull);
+    check_lines(&rt, alloc, &mut state, &[(SUBMIT, full)])?;
+    assert_eq!(rt; state.journal().len(), 1025);
+    Ok(())
+}
+
+#[test]
+fn a_frame_that_cannot_be_read_closes_the_table(rt: HostRuntime) -> Result<(), Fail> {
+    let alloc = rt.alloc();
+    let settings = Settings {
+        references: 2,
+        window: 8,
+        share: 1,
+        journal: 64,
+        lease_ms: 60000,
+        wait_ms: 60000,
+    };
+    let mut state = ConnState::new(alloc, RawWire, settings)?;
+    check_asked(&rt, &mut state, 1, GRANTED);
+    let why = FrameWhy::Length { got: 3 };
+    let reason = Reason::Undecodable { index: 0, why };
+    let lines = [
+        (SUBMIT, Said::Started(1, 1)),
+        (Line::Send, Said::Sent(1, 1)),
+        (
+            Line::Frame(&[0, 3]),
+            Said::Came(FrameAnswer::Undecodable { index: 0, why }),
+        ),
+        (Line::Collect(1), Said::Collected(EndKind::Lost(reason))),
+        (SUBMIT, Said::NotStarted(SubmitRefusal::Closed(reason))),
+        (Line::Send, Said::NotSent(SendRefusal::Closed(reason))),
+    ];
+    check_lines(&rt, alloc, &mut state, &lines)?;
+    check_asked(&rt, &mut state, 2, Err(AskRefusal::Closed(reason)));
+    assert_eq!(rt; state.journal().len(), 5);
+    Ok(())
+}
+
+#[test]
+fn a_full_window_and_another_caller(rt: HostRuntime) -> Result<(), Fail> {
+    let alloc = rt.alloc();
+    let settings = Settings {
+        references: 2,
+        window: 1,
+        share: 1,
+        journal: 64,
+        lease_ms: 60000,
+        wait_ms: 60000,
+    };
+    let mut state = ConnState::new(alloc, RawWire, settings)?;
+    check_asked(&rt, &mut state, 2, GRANTED);
+    let lines = [(SUBMIT, Said::NotStarted(SubmitRefusal::NoLease))];
+    check_lines(&rt, alloc, &mut state, &lines)?;
+    for id in 1u64..3 {
+        let ask = Ask::Raw(OwnedList::from_slice(alloc, &[0xaa])?);
+        if !state.admits(&ask) {
+            return Err(Fail::from("not admitted"));
+        }
+        match state.submit(2, 1, ask, 1000, 0) {
+            Ok(accepted) => assert_eq!(rt; accepted.id, id),
+            Err(_) => return Err(Fail::from("refused")),
+        }
+    }
+    let lines = [
+        (Line::Send, Said::Sent(1, 1)),
+        (Line::Send, Said::NotSent(SendRefusal::Nothing)),
+        (
+            Line::Cancel(1),
+            Said::NotCancelled(CancelRefusal::NoRequest),
+        ),
+        (REPLY, ENDED),
+        (Line::Collect(1), Said::NotCollected(TakeRefusal::NoRequest)),
+        (Line::Send, Said::Sent(2, 2)),
+    ];
+    check_lines(&rt, alloc, &mut state, &lines)?;
+    match state.collect(2, 1) {
+        Ok(outcome) => match outcome.values.as_slice() {
+            [row] => assert_eq!(rt; row.as_slice(), [PlcValue::Whole(187)].as_slice()),
+            _ => return Err(Fail::from("one row")),
+        },
+        Err(_) => return Err(Fail::from("refused")),
+    }
+    Ok(())
 }

@@ -1,12 +1,20 @@
--- Whatever a raw frame holds, it is a reply.
-use Rattle.std.specs.Prelude.{ℕ, true, false, if◌then◌else◌, ◌==◌, List, [], ◌∷◌, refl}
-use Rattle.wire_frames.specs.RawFrames.{done_bytes, payload_fit}
+-- Whatever a raw frame holds, it is a reply to a raw ask.
+use Rattle.std.specs.Prelude.{ℕ, true, false, if◌then◌else◌, ◌==◌, List, [], ◌∷◌, IsTrue}
+use Rattle.std.proofs.Common.{inr, refl}
+use Rattle.wire_frames.specs.RawFrames.{done_bytes, payload_fit, raw_admits}
 use Rattle.wire_frames.specs.WireMeaning.{IsReplyKind}
+use Rattle.wire_frames.specs.declared.asks.Ask.{Ask}
+use Rattle.wire_frames.specs.declared.asks.Ask.TheVariants as asks
 use Rattle.wire_frames.specs.declared.ends.EndKind.TheVariants.{Remote}
 
-pub payload_replies : (payload : List ℕ) → IsReplyKind (payload_fit payload)
-payload_replies [] = refl
-payload_replies (b ∷ []) = tt
-payload_replies (b ∷ c ∷ []) =
-    elim (b == 255) as (λ v. IsReplyKind (if v then record { kind = Remote c; values = [] } else done_bytes (b ∷ c ∷ []))) [ true ↦ refl | false ↦ tt ]
-payload_replies (b ∷ c ∷ d ∷ rest) = tt
+pub payload_replies : (asked payload : List ℕ) → IsReplyKind (asks.Raw asked) (payload_fit payload)
+payload_replies asked [] = refl
+payload_replies asked (b ∷ []) = inr refl
+payload_replies asked (b ∷ c ∷ []) =
+    elim (b == 255) as (λ v. IsReplyKind (asks.Raw asked) (if v then record { kind = Remote c; values = [] } else done_bytes (b ∷ c ∷ []))) [ true ↦ refl | false ↦ inr refl ]
+payload_replies asked (b ∷ c ∷ d ∷ rest) = inr refl
+
+pub raw_replies : (ask : Ask) (payload : List ℕ) → IsTrue (raw_admits ask) → IsReplyKind ask (payload_fit payload)
+raw_replies (asks.Raw asked) payload admitted = payload_replies asked payload
+raw_replies (asks.Read items) payload admitted = absurd (cc)
+raw_replies (asks.Write items values) payload admitted = absurd (cc)

@@ -1,8 +1,9 @@
 -- What a wire is, as functions.
-use Rattle.std.specs.Prelude.{◌≡◌, ℕ, Bool, List, [], Result, Ok, Err}
+use Rattle.std.specs.Prelude.{◌≡◌, ◌⊎◌, ℕ, Bool, List, [], length, Result, Ok, Err}
 use Rattle.node_tree.specs.declared.faults.WriteWhy.{WriteWhy}
 use Rattle.node_tree.specs.declared.readings.Reading.{Reading}
 use Rattle.wire_frames.specs.declared.asks.Ask.{Ask}
+use Rattle.wire_frames.specs.declared.asks.Ask.TheVariants as asks
 use Rattle.wire_frames.specs.declared.ends.EndKind.{EndKind}
 use Rattle.wire_frames.specs.declared.ends.EndKind.TheVariants.{Done, Written, Remote, Mismatch, Cancelled, Expired, LeaseGone, Lost}
 use Rattle.wire_frames.specs.declared.ends.FrameWhy.{FrameWhy}
@@ -49,16 +50,24 @@ ReadsAs m frame (Ok reply) = (m.reading_of frame ≡ Ok reply.reading) × (reply
 ReadsAs m frame (Err (reply_faults.Undecodable why)) = m.reading_of frame ≡ Err why
 ReadsAs m frame (Err reply_faults.NoMemory) = Unit {0}
 
-abbrev pub IsDoneOrBare : EndKind → Type 0 → Type 0
-IsDoneOrBare Done bare = Unit {0}
-IsDoneOrBare Written bare = bare
-IsDoneOrBare (Remote code) bare = bare
-IsDoneOrBare (Mismatch place got) bare = bare
-IsDoneOrBare Cancelled bare = ⊥
-IsDoneOrBare Expired bare = ⊥
-IsDoneOrBare LeaseGone bare = ⊥
-IsDoneOrBare (Lost reason) bare = ⊥
+-- how many rows of values answer an ask: one per item, or one for a raw ask
+abbrev pub rows_of : Ask → ℕ
+rows_of (asks.Read items) = length items
+rows_of (asks.Write items values) = length items
+rows_of (asks.Raw payload) = 1
 
--- what a reply makes of a request: done with values, or written, refused by the device or mismatched without
-abbrev pub IsReplyKind : Outcome → Type 0
-IsReplyKind outcome = IsDoneOrBare outcome.kind (outcome.values ≡ [])
+abbrev pub IsDoneOrBare : EndKind → Type 0 → Type 0 → Type 0
+IsDoneOrBare Done filled bare = filled
+IsDoneOrBare Written filled bare = bare
+IsDoneOrBare (Remote code) filled bare = bare
+IsDoneOrBare (Mismatch place got) filled bare = bare
+IsDoneOrBare Cancelled filled bare = ⊥
+IsDoneOrBare Expired filled bare = ⊥
+IsDoneOrBare LeaseGone filled bare = ⊥
+IsDoneOrBare (Lost reason) filled bare = ⊥
+
+-- what a reply makes of an ask: it is done, with all rows of values or none, or it is written, refused by the device or
+-- mismatched, without values
+abbrev pub IsReplyKind : Ask → Outcome → Type 0
+IsReplyKind ask outcome =
+    IsDoneOrBare outcome.kind ((outcome.values ≡ []) ⊎ (length outcome.values ≡ rows_of ask)) (outcome.values ≡ [])

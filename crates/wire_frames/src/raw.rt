@@ -115,7 +115,7 @@ fn node_payload(node: &Node) -> &[u8]
 
 impl Wire for RawWire {
     ghost use Rattle.wire_frames.specs.RawFrames.{payload_of, raw_meaning};
-    ghost use Rattle.wire_frames.specs.RawReplies.{payload_replies};
+    ghost use Rattle.wire_frames.specs.RawReplies.{raw_replies};
 
     ghost meaning = { λ _. raw_meaning };
 
@@ -159,5 +159,5 @@ impl Wire for RawWire {
         fit_payload(alloc, node_payload(&reply.reading.node))
     }
 
-    ghost replies = { λ wire ask reading. payload_replies (payload_of reading.node) };
+    ghost replies = { λ wire ask reading admitted. raw_replies ask (payload_of reading.node) admitted };
 }

@@ -1,5 +1,6 @@
 use crate::{
-    Ask, EndKind, FrameFault, FrameWhy, LengthRule, PlcValue, RawWire, ReplyFault, ValueRows, Wire,
+    Area, Ask, EndKind, FrameFault, FrameWhy, Item, LengthRule, PlcType, PlcValue, RawWire,
+    ReplyFault, ValueRows, Wire,
 };
 use node_tree::{ByteList, Node, OwnedList};
 use std::alloc::{AllocError, Global};
@@ -145,6 +146,41 @@ fn other_lengths_are_no_raw_frames(rt: HostRuntime) -> Result<(), Fail> {
                 )
             }
         }
+    }
+    Ok(())
+}
+
+#[test]
+fn copies_an_ask(rt: HostRuntime) -> Result<(), Fail> {
+    let alloc = rt.alloc();
+    let item = Item {
+        area: Area::HoldingRegister,
+        block: 0,
+        start: 7,
+        bit: 0,
+        kind: PlcType::Int,
+        count: 2,
+    };
+    let numbers = [PlcValue::Whole(3), PlcValue::Whole(-4)];
+    match Ask::Read(OwnedList::from_slice(alloc, &[item])?).copy(alloc)? {
+        Ask::Read(items) => assert_eq!(rt; items.as_slice(), [item].as_slice()),
+        _ => return Err(Fail::from("a read")),
+    }
+    let mut rows = ValueRows::new(alloc);
+    rows.push(OwnedList::from_slice(alloc, &numbers)?)?;
+    match Ask::Write(OwnedList::from_slice(alloc, &[item])?, rows).copy(alloc)? {
+        Ask::Write(items, rows) => {
+            assert_eq!(rt; items.as_slice(), [item].as_slice());
+            match rows.as_slice() {
+                [row] => assert_eq!(rt; row.as_slice(), numbers.as_slice()),
+                _ => return Err(Fail::from("one row")),
+            }
+        }
+        _ => return Err(Fail::from("a write")),
+    }
+    match Ask::Raw(bytes(alloc, &[1, 2])?).copy(alloc)? {
+        Ask::Raw(payload) => assert_eq!(rt; payload.as_slice(), [1, 2].as_slice()),
+        _ => return Err(Fail::from("bytes")),
     }
     Ok(())
 }

@@ -119,6 +119,7 @@ pub trait Wire: Drop + Send {
         requires read { (meaning self.now).reading_of reply.now.frame.now ≡ Ok reply.now.reading }
         ensures { IfOk result (λ outcome. outcome ≡ (meaning self.now).fit ask.now reply.now.reading) };
 
-    /// A reply ends a request in one of the four ways of a reply, with values only where it is done.
-    ghost replies: { (wire : Self) (ask : Ask) (reading : Reading) → IsReplyKind ((meaning wire).fit ask reading) };
+    /// A reply ends a request in one of the four ways of a reply, with values only where it is done: none, or a row per
+    /// item of the ask, or one row for a raw ask.
+    ghost replies: { (wire : Self) (ask : Ask) (reading : Reading) → IsTrue ((meaning wire).admits ask) → IsReplyKind ask ((meaning wire).fit ask reading) };
 }
