@@ -1,22 +1,27 @@
-ghost use Rattle.std.specs.Prelude.{◌≡◌, ◌≤◌, length, None, IfOk};
+ghost use Rattle.std.specs.Prelude.{◌≡◌, ◌≤◌, ◌↔◌, length, None, IfOk, IsTrue};
+ghost use Rattle.std.specs.String.{string_bytes, string_capacity};
 
 use crate::counts::Count;
 use crate::retries::read_retrying;
 use crate::traits::{Failed, Shelf};
-use std::alloc::Global;
+use std::alloc::{AllocError, Global};
 use std::fs::Files;
 use std::io::{Read, Seek, SeekFrom};
 use std::marker::Model;
 use std::{fs, io};
 
+/// The longest name that is kept: the longest path that the systems we run on open.
+const NAME_ROOM: usize = 4_096;
+
 /// The files of the runtime. It tells nothing of them, and counts the faults of all names together.
 ///
 /// The file that was read last stays open, so that reads which follow one another need no seek, and a pipe
-/// can be read too. After a fault it is closed.
+/// can be read too. After a fault it is closed. Only `new` takes memory, the room for the open file's name, since a
+/// read has no answer for want of it; a file whose name is longer than that is opened for each read.
 #[derive(Drop)]
 pub struct FileShelf<R: Files> {
     rt: R,
-    alloc: Global,
+    name: String,
     opened: Option<Opened<R::File>>,
     faults: Count,
 }
@@ -30,15 +35,17 @@ impl<R: Files> Model for FileShelf<R> {
 }
 
 impl<R: Files> FileShelf<R> {
-    pub fn new(rt: R, alloc: Global) -> FileShelf<R>
-        ensures { result ≡ 0 }
+    pub fn new(rt: R, alloc: Global) -> Result<FileShelf<R>, AllocError>
+    where
+        R: Drop,
+        ensures { IfOk result (λ shelf. shelf ≡ 0) }
     {
-        FileShelf {
+        Ok(FileShelf {
             rt,
-            alloc,
+            name: String::with_capacity(alloc, NAME_ROOM)?,
             opened: None,
             faults: Count::new(),
-        }
+        })
     }
 
     /// How often a read has failed.
@@ -52,10 +59,22 @@ impl<R: Files> FileShelf<R> {
         ensures count { IfOk result (λ n. n ≤ length to.new) }
         ensures faults { self.new ≡ self.old }
     {
-        let mut opened = reopen(&self.rt, self.alloc, self.opened.take(), name)?;
+        let mut opened = self.reopen(name)?;
         let count = opened.read_at(from, to)?;
-        self.opened = Some(opened);
+        if keep_name(&mut self.name, name) {
+            self.opened = Some(opened);
+        }
         Ok(count)
+    }
+
+    /// The file of this name: the one that was open, if it has the name.
+    fn reopen(&mut self, name: &str) -> io::Result<Opened<R::File>>
+        ensures faults { self.new ≡ self.old }
+    {
+        match self.opened.take() {
+            Some(opened) if self.name.as_str() == name => Ok(opened),
+            _ => open(&self.rt, name),
+        }
     }
 }
 
@@ -77,10 +96,9 @@ impl<R: Files> Shelf for FileShelf<R> {
     }
 }
 
-/// An open file, its name, and the byte that its next read begins at.
+/// An open file, and the byte that its next read begins at.
 #[derive(Drop)]
 struct Opened<F> {
-    name: String,
     file: F,
     position: u64,
 }
@@ -99,29 +117,21 @@ impl<F: Read + Seek> Opened<F> {
     }
 }
 
-/// The file of this name: the one that was open, if it has the name.
-fn reopen<R: Files>(
-    rt: &R,
-    alloc: Global,
-    last: Option<Opened<R::File>>,
-    name: &str,
-) -> io::Result<Opened<R::File>> {
-    match last {
-        Some(opened) => {
-            if opened.name.as_str() == name {
-                Ok(opened)
-            } else {
-                open(rt, alloc, name)
-            }
-        }
-        None => open(rt, alloc, name),
-    }
-}
-
-fn open<R: Files>(rt: &R, alloc: Global, name: &str) -> io::Result<Opened<R::File>> {
+fn open<R: Files>(rt: &R, name: &str) -> io::Result<Opened<R::File>> {
     Ok(Opened {
-        name: String::from_str(alloc, name)?,
         file: fs::open(rt, name)?,
         position: 0,
     })
+}
+
+/// Puts a name into the room that was taken for it, and answers whether it fits there. It takes no memory.
+fn keep_name(room: &mut String, name: &str) -> bool
+    ensures kept { IsTrue result → string_bytes room.new ≡ name.now }
+    ensures fits { IsTrue result ↔ (length name.now ≤ string_capacity room.old) }
+{
+    if room.capacity() < name.len() {
+        return false;
+    }
+    room.clear();
+    room.push_str(name).is_ok()
 }

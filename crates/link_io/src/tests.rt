@@ -213,7 +213,7 @@ fn a_real_file_is_written_and_read(rt: HostRuntime) -> Result<(), Fail> {
 fn a_real_file_is_read_at_an_offset(rt: HostRuntime) -> Result<(), Fail> {
     let name = temp_name(&rt, "shelf")?;
     fs::write(&rt, name.as_str(), b"0123456789".as_slice())?;
-    let mut shelf = FileShelf::new(rt, rt.alloc());
+    let mut shelf = FileShelf::new(rt, rt.alloc())?;
     let whole = read_file(rt.alloc(), &mut shelf, name.as_str())?;
     assert_eq!(rt; whole.as_slice(), b"0123456789".as_slice());
     let mut back = [0u8; 2];
@@ -221,6 +221,30 @@ fn a_real_file_is_read_at_an_offset(rt: HostRuntime) -> Result<(), Fail> {
     assert_eq!(rt; back, *b"45");
     assert_eq!(rt; shelf.faults(), 0);
     fs::remove_file(&rt, name.as_str())?;
+    Ok(())
+}
+
+#[test]
+fn real_files_are_read_in_turn(rt: HostRuntime) -> Result<(), Fail> {
+    let one = temp_name(&rt, "one")?;
+    let other = temp_name(&rt, "another")?;
+    fs::write(&rt, one.as_str(), b"0123".as_slice())?;
+    fs::write(&rt, other.as_str(), b"4567".as_slice())?;
+    let mut shelf = FileShelf::new(rt, rt.alloc())?;
+    let mut piece = [0u8; 2];
+    for (name, from, wanted) in [
+        (&one, 0, *b"01"),
+        (&other, 2, *b"67"),
+        (&one, 2, *b"23"),
+        (&one, 1, *b"12"),
+        (&other, 0, *b"45"),
+    ] {
+        assert_eq!(rt; shelf.read_at(name.as_str(), from, &mut piece), Ok(2));
+        assert_eq!(rt; piece, wanted, "{name} from {from}");
+    }
+    assert_eq!(rt; shelf.faults(), 0);
+    fs::remove_file(&rt, one.as_str())?;
+    fs::remove_file(&rt, other.as_str())?;
     Ok(())
 }
 
@@ -235,7 +259,7 @@ fn real_faults_are_counted(rt: HostRuntime) -> Result<(), Fail> {
         "it was opened to be read"
     );
     fs::remove_file(&rt, name.as_str())?;
-    let mut shelf = FileShelf::new(rt, rt.alloc());
+    let mut shelf = FileShelf::new(rt, rt.alloc())?;
     assert_eq!(rt;
         read_file(rt.alloc(), &mut shelf, name.as_str()).err(),
         Some(Stopped::ByFault)

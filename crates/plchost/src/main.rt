@@ -33,14 +33,19 @@ fn read_words(rt: &(impl Env + AllocGlobal)) -> io::Result<StringList> {
     Ok(words)
 }
 
+/// The words, and the files that they may name.
+fn words_and_files(rt: HostRuntime) -> io::Result<(StringList, FileShelf<HostRuntime>)> {
+    let words = read_words(&rt)?;
+    let files = FileShelf::new(rt, rt.alloc())?;
+    Ok((words, files))
+}
+
 fn main(rt: HostRuntime) -> ExitCode {
-    let alloc = rt.alloc();
     let mut out = StdSink::new(io::writer(&rt));
-    let status = match read_words(&rt) {
-        Ok(words) => {
-            let mut files = FileShelf::new(rt, alloc);
+    let status = match words_and_files(rt) {
+        Ok((words, mut files)) => {
             let mut input = StdSource::new(rt.reader());
-            tool_main(alloc, &words, &mut files, &mut input, &mut out)
+            tool_main(rt.alloc(), &words, &mut files, &mut input, &mut out)
         }
         Err(error) if matches!(error.kind(), ErrorKind::OutOfMemory) => {
             finish(&mut out, b"no memory\n", b"", NO_MEMORY)
