@@ -7,6 +7,7 @@ mod asking;
 mod calls;
 mod closing;
 mod conn;
+mod drafts;
 mod ending;
 mod ends;
 mod entries;

@@ -1,56 +1,46 @@
-ghost use Rattle.std.specs.Prelude.{◌≡◌, ◌<◌, ◌≤◌, IfOk, OnOk, OnErr, IsTrue, Ok, vec_len};
+ghost use Rattle.std.specs.Prelude.{◌≡◌, ◌<◌, ◌≤◌, IfOk, IfErr, OnOk, OnErr, IsTrue, Ok, Err, vec_len};
 ghost use Rattle.std.specs.Vec.{vec_capacity};
 ghost use Rattle.conn_core.specs.Finds.{weight_of};
-ghost use Rattle.conn_core.specs.Requests.{request_of};
+ghost use Rattle.conn_core.specs.Requests.{IsDraftOf, request_of};
 ghost use Rattle.conn_core.specs.Tables.{IsSettings};
 ghost use Rattle.conn_core.specs.Rooms.{HasTurnRoom, IsKept, Stays, TurnsAs, capacities_of, lists_of, zero_reference};
-ghost use Rattle.conn_core.specs.Steps.{IsGiven, accepted_of, answer_of, frame_for, prepared, started_answer, submit};
+ghost use Rattle.conn_core.specs.Steps.{IsGiven, accepted_of, answer_of, next_reference, prepared, started_answer, submit};
 ghost use Rattle.conn_core.specs.declared.entries.Event.TheVariants as events;
 
 use crate::answers::{Accepted, SubmitRefusal};
+use crate::drafts::{Draft, Frames, write_frames};
 use crate::entries::{Answer, Entry, Event};
 use crate::kept::{Kept, reserve_turn, write_down};
 use crate::settings::Settings;
-use crate::submitting::{Request, find_place, start};
+use crate::submitting::{Request, check_place, peek_reference, start};
 use crate::tables::Table;
-use node_tree::{ByteList, OwnedList};
-use std::alloc::{AllocError, Global};
-use wire_frames::{Ask, FrameFault, Wire};
+use std::alloc::AllocError;
+use wire_frames::Wire;
 
-/// The frame that carries an ask, where it is within the wire's limit.
-fn write_frame<W: Wire>(
-    alloc: Global,
+/// The frames of a request that its caller may hand in, from the draft of its ask.
+fn take_frames<W: Wire>(
     wire: &W,
-    ask: &Ask,
-    reference: u16,
-) -> Result<ByteList, SubmitRefusal>
-    requires admitted { IsTrue ((W.meaning wire.now).admits ask.now) }
-    requires referred { 0 < reference }
-    ensures { IsGiven SubmitRefusal.NoMemory result (frame_for (W.meaning wire.now) ask.now ((W.meaning wire.now).frame_of ask.now reference)) }
+    table: &Table,
+    request: &Request,
+    draft: Draft,
+) -> Result<Frames, SubmitRefusal>
+    requires admitted { IsTrue ((W.meaning wire.now).admits request.now.ask) }
+    requires drafted { IsDraftOf ((W.meaning wire.now).frame_of request.now.ask (next_reference table.now.free.items)) draft }
+    ensures written { IfOk result (λ frames. prepared (W.meaning wire.now) (lists_of table.now) (request_of request.now) ≡ Ok frames.written) }
+    ensures sent { IfOk result (λ frames. frames.sent ≡ frames.written) }
+    ensures err { IfErr result (λ refusal. prepared (W.meaning wire.now) (lists_of table.now) (request_of request.now) ≡ Err refusal) }
 {
-    let frame = match wire.frame(alloc, ask, reference) {
-        Ok(frame) => frame,
-        Err(FrameFault::Unwritable { entry, why }) => {
-            return Err(SubmitRefusal::Unwritable { entry, why });
-        }
-        Err(FrameFault::NoMemory) => return Err(SubmitRefusal::NoMemory),
+    check_place(table, request.actor, request.lease)?;
+    let frames = match draft {
+        Draft::Written(frames) => frames,
+        Draft::Unwritable { entry, why } => return Err(SubmitRefusal::Unwritable { entry, why }),
     };
-    let size = wire.size(ask);
+    let size = wire.size(&request.ask);
     let limit = wire.limit();
     if limit < size {
         return Err(SubmitRefusal::TooLarge { size, limit });
     }
-    Ok(frame)
-}
-
-/// The frame of a request that its caller may hand in.
-fn prepare<W: Wire>(wire: &W, table: &Table, request: &Request) -> Result<ByteList, SubmitRefusal>
-    requires admitted { IsTrue ((W.meaning wire.now).admits request.now.ask) }
-    requires referred { weight_of zero_reference table.now.free.items ≡ 0 }
-    ensures { IsGiven SubmitRefusal.NoMemory result (prepared (W.meaning wire.now) (lists_of table.now) (request_of request.now)) }
-{
-    let reference = find_place(table, request.actor, request.lease)?;
-    write_frame(table.alloc, wire, &request.ask, reference)
+    Ok(frames)
 }
 
 /// Takes room for a request and all that it can cause.
@@ -83,8 +73,10 @@ pub(crate) fn submit<W: Wire>(
     let alloc = kept.table.alloc;
     reserve_request(kept, settings)?;
     let ask = request.ask.copy(alloc)?;
-    let frame = prepare(wire, &kept.table, &request)?;
-    let sent = OwnedList::from_slice(alloc, frame.as_slice())?;
+    let reference = peek_reference(&kept.table.free);
+    let draft = write_frames(alloc, wire, &request.ask, reference)?;
+    let frames = take_frames(wire, &kept.table, &request, draft)?;
+    let Frames { written, sent } = frames;
     let actor = request.actor;
     let event = Event::Submit {
         lease: request.lease,
@@ -96,7 +88,7 @@ pub(crate) fn submit<W: Wire>(
     let answer = Answer::Accepted {
         id,
         reference,
-        frame,
+        frame: written,
     };
     write_down(
         kept,

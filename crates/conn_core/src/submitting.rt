@@ -1,4 +1,4 @@
-ghost use Rattle.std.specs.Prelude.{◌≡◌, ◌+◌, ◌<◌, ◌^◌, ◌-◌, ◌≤◌, IsTrue, IfOk, OnErr, vec_len, Ok, MatchResult};
+ghost use Rattle.std.specs.Prelude.{◌≡◌, ◌+◌, ◌<◌, ◌^◌, ◌-◌, ◌≤◌, IsTrue, IfOk, IfErr, OnOk, vec_len, Ok, Err};
 ghost use Rattle.std.specs.Vec.{vec_capacity};
 ghost use Rattle.std.specs.VecDeque.{deque_capacity};
 ghost use Rattle.conn_core.specs.Requests.{request_of};
@@ -25,7 +25,7 @@ pub(crate) struct Request {
 }
 
 /// The reference that the next request goes out under, or 1 where none is free.
-fn peek_reference(free: &VecDeque<u16>) -> u16
+pub(crate) fn peek_reference(free: &VecDeque<u16>) -> u16
     ensures { result ≡ next_reference free.now.items }
 {
     match free.front() {
@@ -34,9 +34,10 @@ fn peek_reference(free: &VecDeque<u16>) -> u16
     }
 }
 
-/// The reference to try, where the caller may hand in a request.
-pub(crate) fn find_place(table: &Table, actor: u32, lease: u64) -> Result<u16, SubmitRefusal>
-    ensures { result ≡ place_for (lists_of table.now) actor lease }
+/// Whether the caller may hand in a request, as the table stands.
+pub(crate) fn check_place(table: &Table, actor: u32, lease: u64) -> Result<(), SubmitRefusal>
+    ensures ok { OnOk result (place_for (lists_of table.now) actor lease ≡ Ok (next_reference table.now.free.items)) }
+    ensures err { IfErr result (λ refusal. place_for (lists_of table.now) actor lease ≡ Err refusal) }
 {
     if let Some(reason) = table.closed {
         return Err(SubmitRefusal::Closed(reason));
@@ -47,7 +48,7 @@ pub(crate) fn find_place(table: &Table, actor: u32, lease: u64) -> Result<u16, S
     if table.rows.len() >= 1024 {
         return Err(SubmitRefusal::TableFull);
     }
-    Ok(peek_reference(&table.free))
+    Ok(())
 }
 
 /// Queues a request under the first free reference.
