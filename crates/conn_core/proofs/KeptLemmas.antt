@@ -1,10 +1,10 @@
 -- What a connection keeps, where its lists stay or a turn was written down.
-use Rattle.std.proofs.Common.{◌≡◌, ℕ, ◌+◌, ◌≤◌, length, sym, ap, ◌∙◌, subst, arith, length-append, vec_len}
+use Rattle.std.proofs.Common.{◌≡◌, ℕ, ◌+◌, ◌<◌, ◌≤◌, ◌^◌, Bool, true, false, length, refl, sym, ap, ◌∙◌, subst, arith, length-append, vec_len}
 use Rattle.std.specs.Vec.{vec_capacity}
 use Rattle.std.specs.VecDeque.{deque_capacity}
 use Rattle.conn_core.specs.Journals.{settled, turn_of}
 use Rattle.conn_core.specs.Rooms.{CanTurn, Capacities, IsKept, IsRoomy, IsUnderWay, Turns, capacities_of, lists_of}
-use Rattle.conn_core.specs.Tables.{Table}
+use Rattle.conn_core.specs.Tables.{IsSettings, Table, is_open}
 use Rattle.conn_core.specs.declared.entries.Entry.{Entry}
 use Rattle.conn_core.specs.declared.kept.Kept.{Kept}
 use Rattle.conn_core.specs.declared.settings.Settings.{Settings}
@@ -43,3 +43,13 @@ turned_kept s k m e turns a b c can =
 pub can_on : (s : Settings) (n : ℕ) (room more : Capacities) (t u : Table) → u ≡ t → room.journal ≤ more.journal → room.free ≤ more.free → room.quarantined ≤ more.quarantined → CanTurn s n room t → CanTurn s n more u
 can_on s n room more t u tables a b c can =
     record { after = subst (λ v. IsRoomy s (n + 1) more v) (sym tables) (roomier s (n + 1) room more t a b c can.after); under_way = subst (λ v. IsUnderWay s n v) (sym tables) can.under_way }
+
+short_if : (s : Settings) (k : Kept) (b : Bool) → is_open (lists_of k.table) ≡ b → IsSettings s → IsKept s k → vec_len k.journal < 2 ^ 63
+short_if s k true opened settings kept = let below = kept.under_way opened in let limit = settings.journal.1 in omega arith
+short_if s k false opened settings kept = let below = kept.room.at_end opened in let limit = settings.journal.1 in omega arith
+
+-- the journal's limit keeps it short
+pub kept_short : (s : Settings) (k : Kept) → IsSettings s → IsKept s k → length k.journal.items < 2 ^ 63
+kept_short s k settings kept =
+    let old = k.journal.ok.0 in
+    let short = short_if s k (is_open (lists_of k.table)) refl settings kept in omega arith

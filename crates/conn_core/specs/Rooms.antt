@@ -51,9 +51,9 @@ references_kept row = phase_references row.phase
 abbrev pub closes_of : Lists → ℕ
 closes_of t = if is_open t then 1 else 0
 
--- a lease that is held can go; a waiter is counted twice, which is more than it needs
+-- a lease goes once, whether it is held or waited for; a grant is part of another event
 abbrev pub needs_of : Lists → ℕ
-needs_of t = weight_of entries_of t.rows + length t.held + 2 * length t.waiting + closes_of t
+needs_of t = weight_of entries_of t.rows + length t.held + length t.waiting + closes_of t
 
 -- the capacities of the lists that grow without taking memory
 pub record Capacities : Type 0 where
@@ -101,7 +101,7 @@ pub record CanTurn (s : Settings) (entries : ℕ) (room : Capacities) (t : Lists
 
 -- room for all that an asked lease, a request or a frame can cause
 abbrev pub HasTurnRoom : ℕ → Capacities → Lists → Type 0
-HasTurnRoom entries room t = entries + 3 * length t.rows + length t.held + 2 * length t.waiting + 6 ≤ room.journal
+HasTurnRoom entries room t = entries + 3 * length t.rows + length t.held + length t.waiting + 6 ≤ room.journal
 
 -- a turn was written down: the entry, with the close by a full journal behind it where it must follow
 pub record Turns (s : Settings) (old : List Entry) (t : Lists) (e : Entry) (new : List Entry) (u : Lists) : Type 0 where

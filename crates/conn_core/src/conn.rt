@@ -175,6 +175,7 @@ impl<W: Wire> ConnState<W> {
     pub fn into_journal(self) -> EntryList
         ensures journal { result ≡ self.journal }
         ensures legal { Legal (connection_of W.meaning self.key) self.journal }
+        ensures short { length self.journal < 2 ^ 63 }
     {
         let ConnState { kept, .. } = self;
         let Kept { journal, .. } = kept;

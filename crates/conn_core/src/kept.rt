@@ -83,12 +83,12 @@ pub(crate) fn reserve_turn(kept: &mut Kept) -> Result<(), AllocError>
     ensures journal { kept.new.journal.items ≡ kept.old.journal.items }
     ensures table { kept.new.table ≡ kept.old.table }
     ensures room { vec_capacity kept.old.journal ≤ vec_capacity kept.new.journal }
-    ensures ok { OnOk result (vec_len kept.new.journal + 3 * vec_len kept.old.table.rows + vec_len kept.old.table.held + 2 * vec_len kept.old.table.waiting + 6 ≤ vec_capacity kept.new.journal) }
+    ensures ok { OnOk result (vec_len kept.new.journal + 3 * vec_len kept.old.table.rows + vec_len kept.old.table.held + vec_len kept.old.table.waiting + 6 ≤ vec_capacity kept.new.journal) }
 {
     let rows = kept.table.rows.len();
     let held = kept.table.held.len();
     let waiting = kept.table.waiting.len();
-    kept.journal.reserve(3 * rows + held + 2 * waiting + 6)
+    kept.journal.reserve(3 * rows + held + waiting + 6)
 }
 
 /// Writes down an entry that can cause no more than there is room for.
