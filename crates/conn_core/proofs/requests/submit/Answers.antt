@@ -1,7 +1,7 @@
 use Rattle.std.proofs.Common.{◌∙◌, rules, sym, vec_len, refl}
 use Rattle.conn_core.specs.Requests.{request_of}
 use Rattle.conn_core.specs.Rooms.{capacities_of, lists_of}
-use Rattle.conn_core.specs.Steps.{prepared, table_or, with_reference}
+use Rattle.conn_core.specs.Steps.{table_or, with_reference}
 use Rattle.conn_core.proofs.KeptLemmas.{can_on, same_kept}
 use Rattle.conn_core.proofs.SubmitTurns.{prepared_ok, start_refused, start_turns}
 use Rattle.conn_core.proofs.requests.submit.Goals as goal
