@@ -1,9 +1,8 @@
-ghost use Rattle.std.specs.Prelude.{◌≡◌, ◌<◌, ◌≤◌, IfOk, IfErr, OnOk, OnErr, IsTrue, Ok, Err, vec_len};
+ghost use Rattle.std.specs.Prelude.{◌≡◌, ◌<◌, IfOk, IfErr, OnOk, OnErr, IsTrue, Ok, Err, vec_len};
 ghost use Rattle.std.specs.Vec.{vec_capacity};
-ghost use Rattle.conn_core.specs.Finds.{weight_of};
 ghost use Rattle.conn_core.specs.Requests.{IsDraftOf, request_of};
 ghost use Rattle.conn_core.specs.Tables.{IsSettings};
-ghost use Rattle.conn_core.specs.Rooms.{HasTurnRoom, IsKept, Stays, TurnsAs, capacities_of, lists_of, zero_reference};
+ghost use Rattle.conn_core.specs.Rooms.{HasTurnRoom, IsKept, Stays, TurnsAs, capacities_of, lists_of};
 ghost use Rattle.conn_core.specs.Steps.{IsGiven, accepted_of, answer_of, next_reference, prepared, started_answer, submit};
 ghost use Rattle.conn_core.specs.declared.entries.Event.TheVariants as events;
 
