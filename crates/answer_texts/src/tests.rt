@@ -1,0 +1,295 @@
+use crate::{
+    add_asked, add_cancelled, add_collected, add_frame_why, add_kind, add_outcome, add_reason,
+    add_received, add_sent, add_submitted, read_why_text, write_why_text,
+};
+use conn_core::{
+    Accepted, AskRefusal, CancelRefusal, FrameAnswer, FrameRefusal, LeaseAnswer, SendRefusal,
+    Sending, SubmitRefusal, TakeRefusal,
+};
+use node_tree::{EvalFault, OwnedList, ReadWhy, WriteWhy};
+use std::alloc::{AllocError, Global};
+use std::process::Abort;
+use std::test::Fail;
+use wire_frames::{EndKind, FrameWhy, Outcome, PlcValue, Reason, ValueRows};
+
+#[test]
+fn names_why_bits_are_no_value(rt: HostRuntime) -> Result<(), Fail> {
+    let cases: [(ReadWhy, &[u8]); 12] = [
+        (ReadWhy::ConstMismatch, b"ConstMismatch"),
+        (ReadWhy::NoCase, b"NoCase"),
+        (ReadWhy::CountRange, b"CountRange"),
+        (ReadWhy::LengthOverrun, b"LengthOverrun"),
+        (ReadWhy::ZeroItem, b"ZeroItem"),
+        (ReadWhy::ValueRange, b"ValueRange"),
+        (ReadWhy::ChecksumMismatch, b"ChecksumMismatch"),
+        (ReadWhy::NullAccess, b"NullAccess"),
+        (ReadWhy::CastFails, b"CastFails"),
+        (ReadWhy::EnumAttr, b"EnumAttr"),
+        (ReadWhy::TooDeep, b"TooDeep"),
+        (ReadWhy::TooLong, b"TooLong"),
+    ];
+    for (why, text) in &cases {
+        assert_eq!(rt; read_why_text(*why), *text);
+    }
+    Ok(())
+}
+
+#[test]
+fn names_why_a_value_cant_be_written(rt: HostRuntime) -> Result<(), Fail> {
+    let cases: [(WriteWhy, &[u8]); 12] = [
+        (WriteWhy::LocalDisagrees, b"LocalDisagrees"),
+        (WriteWhy::CountDisagrees, b"CountDisagrees"),
+        (WriteWhy::CaseDisagrees, b"CaseDisagrees"),
+        (WriteWhy::ValueRange, b"ValueRange"),
+        (WriteWhy::Shape, b"Shape"),
+        (WriteWhy::ZeroItem, b"ZeroItem"),
+        (WriteWhy::Eval(EvalFault::NullAccess), b"NullAccess"),
+        (WriteWhy::Eval(EvalFault::CastFails), b"CastFails"),
+        (WriteWhy::Eval(EvalFault::EnumAttr), b"EnumAttr"),
+        (WriteWhy::Unaligned, b"Unaligned"),
+        (WriteWhy::TooLong, b"TooLong"),
+        (WriteWhy::TooDeep, b"TooDeep"),
+    ];
+    for (why, text) in &cases {
+        assert_eq!(rt; write_why_text(*why), *text);
+    }
+    Ok(())
+}
+
+#[test]
+fn spells_why_a_frame_cant_be_read(rt: HostRuntime) -> Result<(), Fail> {
+    let cases: [(FrameWhy, &[u8]); 5] = [
+        (FrameWhy::Length { got: 3 }, b"length 3"),
+        (FrameWhy::Short, b"short"),
+        (FrameWhy::Unused { bits: 16 }, b"unused 16"),
+        (
+            FrameWhy::Bad {
+                bit: 40,
+                why: ReadWhy::NoCase,
+            },
+            b"bad 40 NoCase",
+        ),
+        (FrameWhy::NotReply, b"not reply"),
+    ];
+    for (why, wanted) in &cases {
+        let mut text = Vec::new(rt.alloc());
+        add_frame_why(&mut text, *why)?;
+        assert_eq!(rt; text.as_slice(), *wanted);
+    }
+    Ok(())
+}
+
+#[test]
+fn spells_why_a_connection_closed(rt: HostRuntime) -> Result<(), Fail> {
+    let why = FrameWhy::Length { got: 2 };
+    let cases: [(Reason, &[u8]); 7] = [
+        (Reason::PeerEnded, b"peer ended"),
+        (Reason::ReadFault, b"read fault"),
+        (Reason::WriteFault, b"write fault"),
+        (
+            Reason::Undecodable { index: 1, why },
+            b"undecodable 1 length 2",
+        ),
+        (Reason::Worn, b"worn"),
+        (Reason::Asked, b"asked"),
+        (Reason::NoMemory, b"no memory"),
+    ];
+    for (reason, wanted) in &cases {
+        let mut text = Vec::new(rt.alloc());
+        add_reason(&mut text, *reason)?;
+        assert_eq!(rt; text.as_slice(), *wanted);
+    }
+    Ok(())
+}
+
+#[test]
+fn spells_how_a_request_ended(rt: HostRuntime) -> Result<(), Fail> {
+    let cases: [(EndKind, &[u8]); 8] = [
+        (EndKind::Done, b"done"),
+        (EndKind::Written, b"written"),
+        (EndKind::Remote(7), b"remote 7"),
+        (EndKind::Mismatch { place: 1, got: 0 }, b"mismatch 1 0"),
+        (EndKind::Cancelled, b"cancelled"),
+        (EndKind::Expired, b"expired"),
+        (EndKind::LeaseGone, b"lease gone"),
+        (EndKind::Lost(Reason::Worn), b"lost worn"),
+    ];
+    for (kind, wanted) in &cases {
+        let mut text = Vec::new(rt.alloc());
+        add_kind(&mut text, *kind)?;
+        assert_eq!(rt; text.as_slice(), *wanted);
+    }
+    Ok(())
+}
+
+fn done(alloc: Global, rows: &[&[PlcValue]]) -> Result<Outcome, AllocError> {
+    let mut values = ValueRows::new(alloc);
+    for row in rows {
+        values.push(OwnedList::from_slice(alloc, *row)?)?;
+    }
+    Ok(Outcome {
+        kind: EndKind::Done,
+        values,
+    })
+}
+
+#[test]
+fn spells_a_word_for_each_item(rt: HostRuntime) -> Result<(), Fail> {
+    let alloc = rt.alloc();
+    let raw = |bits: u64, width: u8| PlcValue::Raw { bits, width };
+    let flags = [PlcValue::Bool(true), PlcValue::Bool(false)];
+    let numbers = [PlcValue::Whole(10), PlcValue::Whole(-20)];
+    let short = [raw(0x3f80_000a, 32)];
+    let long = [raw(0xbff0_0000_0000_000a, 64)];
+    let outcome = done(alloc, &[&flags, &numbers, &short, &long])?;
+    let mut text = Vec::from_slice(alloc, b"> ")?;
+    add_outcome(&mut text, &outcome)?;
+    let wanted = b"> done true,false 10,-20 16#3F80000A 16#BFF000000000000A";
+    assert_eq!(rt; text.as_slice(), wanted.as_slice());
+    Ok(())
+}
+
+#[test]
+fn answers_an_ask_for_a_lease(rt: HostRuntime) -> Result<(), Fail> {
+    let cases: [(Result<LeaseAnswer, AskRefusal>, &[u8]); 5] = [
+        (Ok(LeaseAnswer::Granted { lease: 1 }), b"granted 1"),
+        (
+            Ok(LeaseAnswer::Waiting { lease: 2, place: 0 }),
+            b"waiting 2 0",
+        ),
+        (Err(AskRefusal::Closed(Reason::Asked)), b"closed asked"),
+        (Err(AskRefusal::QueueFull), b"queue full"),
+        (Err(AskRefusal::NoMemory), b"no memory"),
+    ];
+    for (answer, wanted) in &cases {
+        let mut text = Vec::new(rt.alloc());
+        add_asked(&mut text, answer)?;
+        assert_eq!(rt; text.as_slice(), *wanted);
+    }
+    Ok(())
+}
+
+#[test]
+fn answers_a_request(rt: HostRuntime) -> Result<(), Fail> {
+    let accepted = Accepted {
+        id: 3,
+        reference: 65535,
+    };
+    let why = WriteWhy::ValueRange;
+    let cases: [(Result<Accepted, SubmitRefusal>, &[u8]); 8] = [
+        (Ok(accepted), b"started 3 65535"),
+        (Err(SubmitRefusal::Closed(Reason::Worn)), b"closed worn"),
+        (Err(SubmitRefusal::NoLease), b"no lease"),
+        (Err(SubmitRefusal::TableFull), b"table full"),
+        (
+            Err(SubmitRefusal::Unwritable { entry: 1, why }),
+            b"unwritable ValueRange",
+        ),
+        (
+            Err(SubmitRefusal::TooLarge {
+                size: 261,
+                limit: 260,
+            }),
+            b"too large 261 260",
+        ),
+        (Err(SubmitRefusal::NoReference), b"no reference"),
+        (Err(SubmitRefusal::NoMemory), b"no memory"),
+    ];
+    for (answer, wanted) in &cases {
+        let mut text = Vec::new(rt.alloc());
+        add_submitted(&mut text, answer)?;
+        assert_eq!(rt; text.as_slice(), *wanted);
+    }
+    Ok(())
+}
+
+fn check_sent(
+    rt: &impl Abort,
+    alloc: Global,
+    answer: &Result<Sending, SendRefusal>,
+    wanted: &[u8],
+) -> Result<(), Fail> {
+    let mut text = Vec::new(alloc);
+    add_sent(&mut text, answer)?;
+    assert_eq!(rt; text.as_slice(), wanted);
+    Ok(())
+}
+
+#[test]
+fn answers_with_the_next_frame(rt: HostRuntime) -> Result<(), Fail> {
+    let alloc = rt.alloc();
+    let sending = Sending {
+        id: 1,
+        reference: 2,
+        frame: OwnedList::from_slice(alloc, &[0, 5, 0, 2, 0xaa])?,
+    };
+    check_sent(&rt, alloc, &Ok(sending), b"sent 1 00050002aa")?;
+    let closed = SendRefusal::Closed(Reason::PeerEnded);
+    check_sent(&rt, alloc, &Err(closed), b"closed peer ended")?;
+    check_sent(&rt, alloc, &Err(SendRefusal::Nothing), b"nothing")
+}
+
+#[test]
+fn answers_a_frame(rt: HostRuntime) -> Result<(), Fail> {
+    let why = FrameWhy::NotReply;
+    let kind = EndKind::Mismatch { place: 1, got: 0 };
+    let cases: [(Result<FrameAnswer, FrameRefusal>, &[u8]); 6] = [
+        (
+            Ok(FrameAnswer::Ended { id: 9, kind }),
+            b"ended 9 mismatch 1 0",
+        ),
+        (Ok(FrameAnswer::Late { reference: 1 }), b"late 1"),
+        (Ok(FrameAnswer::Stray { reference: 4 }), b"stray 4"),
+        (
+            Ok(FrameAnswer::Undecodable { index: 5, why }),
+            b"undecodable 5 not reply",
+        ),
+        (Err(FrameRefusal::Closed(Reason::Worn)), b"closed worn"),
+        (Err(FrameRefusal::NoMemory), b"no memory"),
+    ];
+    for (answer, wanted) in &cases {
+        let mut text = Vec::new(rt.alloc());
+        add_received(&mut text, answer)?;
+        assert_eq!(rt; text.as_slice(), *wanted);
+    }
+    Ok(())
+}
+
+#[test]
+fn answers_a_cancellation(rt: HostRuntime) -> Result<(), Fail> {
+    let cases: [(Result<(), CancelRefusal>, &[u8]); 3] = [
+        (Ok(()), b"cancelled"),
+        (
+            Err(CancelRefusal::AlreadyEnded(EndKind::Remote(7))),
+            b"ended remote 7",
+        ),
+        (Err(CancelRefusal::NoRequest), b"no request"),
+    ];
+    for (answer, wanted) in &cases {
+        let mut text = Vec::new(rt.alloc());
+        add_cancelled(&mut text, answer)?;
+        assert_eq!(rt; text.as_slice(), *wanted);
+    }
+    Ok(())
+}
+
+fn check_collected(
+    rt: &impl Abort,
+    alloc: Global,
+    answer: &Result<Outcome, TakeRefusal>,
+    wanted: &[u8],
+) -> Result<(), Fail> {
+    let mut text = Vec::new(alloc);
+    add_collected(&mut text, answer)?;
+    assert_eq!(rt; text.as_slice(), wanted);
+    Ok(())
+}
+
+#[test]
+fn answers_a_collection(rt: HostRuntime) -> Result<(), Fail> {
+    let alloc = rt.alloc();
+    let outcome = done(alloc, &[&[PlcValue::Whole(10), PlcValue::Whole(20)]])?;
+    check_collected(&rt, alloc, &Ok(outcome), b"done 10,20")?;
+    check_collected(&rt, alloc, &Err(TakeRefusal::Pending), b"pending")?;
+    check_collected(&rt, alloc, &Err(TakeRefusal::NoRequest), b"no request")
+}
