@@ -1,9 +1,8 @@
 -- Values as digits, and with commas between them.
 use Rattle.std.proofs.Common.{◌≡◌, ◌≤◌, ◌-◌, ℕ, length, get_or, arith, List, [], ◌∷◌, ◌++◌, take, drop, refl, ap, ◌∙◌, codes, Result, Ok, Err, IfOk}
 use Rattle.std.proofs.lemmas.List.{append-nil, take_all}
-use Rattle.std.specs.Prelude.{map}
 use Rattle.std.specs.Int.{w64, to_be_bytes}
-use Rattle.std.specs.List.{flat_map, join_with_byte}
+use Rattle.std.specs.List.{flat_map}
 use Rattle.hex.specs.Hex.{encode_with, encode_upper}
 use Rattle.wire_frames.specs.declared.kinds.PlcValue.{PlcValue}
 use Rattle.answer_texts.specs.Texts.{raw_text, value_text, values_text}

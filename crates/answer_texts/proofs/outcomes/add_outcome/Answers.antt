@@ -1,4 +1,3 @@
-use Rattle.std.proofs.Common.{rules}
 use Rattle.answer_texts.specs.Texts.{kind_text}
 use Rattle.answer_texts.proofs.AppendLemmas.{joined}
 use Rattle.answer_texts.proofs.outcomes.add_outcome.Goals as goal

@@ -1,4 +1,4 @@
-use Rattle.std.proofs.Common.{rules, ap, ◌∙◌, length, take, sym, refl}
+use Rattle.std.proofs.Common.{rules, ap, ◌∙◌, length, take}
 use Rattle.std.proofs.Math.Seq.{take-append_seam}
 use Rattle.answer_texts.proofs.AppendLemmas.{still_begins}
 use Rattle.answer_texts.proofs.values.add_more.Goals as goal
