@@ -1,0 +1,5 @@
+pub mod LineLaws
+pub mod NumberLaws
+pub mod PlaceLaws
+pub mod SpellingLaws
+pub mod WordLaws

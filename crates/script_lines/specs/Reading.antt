@@ -1,0 +1,139 @@
+-- What the readers of a line give, one part at a time.
+use Rattle.std.specs.Prelude.{◌≡◌, ◌^◌, ◌==◌, ◌&&◌, nat_lt, nat_le, ℕ, Bool, true, false, List, [], ◌∷◌, length, codes, Option, Some, None, Result, Ok, Err, option_and_then, if◌then◌else◌}
+use Rattle.std.specs.Char.{is_ascii_digit}
+use Rattle.std.specs.List.{list_all}
+use Rattle.std.specs.Result.{result_ok}
+use Rattle.std.specs.Str.{bytes_eq}
+use Rattle.std.specs.Str.Parse.{digits_value}
+use Rattle.hex.specs.Hex.{decode_of}
+use Rattle.wire_frames.specs.RawFrames.{is_whole}
+use Rattle.conn_core.specs.declared.settings.Settings.{Settings}
+use Rattle.script_lines.specs.declared.commands.Call.{Call}
+use Rattle.script_lines.specs.declared.commands.Call.TheVariants.{AskLease, Submit, TakeSend, Frame, Cancel, Collect}
+use Rattle.script_lines.specs.declared.commands.Command.{Command}
+use Rattle.script_lines.specs.declared.commands.Command.TheVariants.{Table, Calls}
+use Rattle.script_lines.specs.declared.commands.LineFault.{LineFault}
+use Rattle.script_lines.specs.declared.commands.LineFault.TheVariants.{Refused, NoMemory}
+
+infixl 10 ◌>>=◌
+abbrev pub ◌>>=◌ : {A B : Type 0} → Option A → (A → Option B) → Option B
+o >>= f = option_and_then f o
+
+-- what a function returned is what reading gives, but for memory
+abbrev pub Reads : {X : Type 0} → Result X LineFault → Option X → Type 0
+Reads (Ok x) read = read ≡ Some x
+Reads (Err Refused) read = read ≡ None
+Reads (Err NoMemory) read = Unit {0}
+
+-- ---- words
+
+unfoldable pub number_of : List ℕ → Option ℕ
+number_of word =
+    if list_all is_ascii_digit word && (nat_lt 0 (length word) && nat_lt (digits_value 10 word) (2 ^ 64))
+    then Some (digits_value 10 word)
+    else None
+
+unfoldable pub within_of : (low high : ℕ) → List ℕ → Option ℕ
+within_of low high word = do
+  n ← number_of word
+  if nat_le low n && nat_le n high then Some n else None
+
+unfoldable pub hex_of : List ℕ → Option (List ℕ)
+hex_of word = if length word == 0 then None else result_ok (decode_of word)
+
+-- ---- the words behind a line's first
+
+unfoldable pub table_of : List (List ℕ) → Option Settings
+table_of (a ∷ b ∷ c ∷ d ∷ e ∷ f ∷ []) = do
+  references ← within_of 1 65535 a
+  window ← within_of 1 64 b
+  share ← within_of 1 64 c
+  journal ← within_of 64 262144 d
+  lease_ms ← within_of 1 86400000 e
+  wait_ms ← within_of 1 86400000 f
+  Some (record { references = references; window = window; share = share; journal = journal; lease_ms = lease_ms; wait_ms = wait_ms })
+table_of _ = None
+
+-- a caller, and a number
+unfoldable pub pair_of : List (List ℕ) → Option (ℕ × ℕ)
+pair_of (a ∷ b ∷ []) = do
+  caller ← within_of 1 1000 a
+  n ← number_of b
+  Some (caller, n)
+pair_of _ = None
+
+unfoldable pub submit_of : List (List ℕ) → Option Call
+submit_of (a ∷ b ∷ c ∷ d ∷ e ∷ []) = do
+  caller ← within_of 1 1000 a
+  lease ← number_of b
+  now ← number_of c
+  timeout ← within_of 1 3600000 d
+  payload ← hex_of e
+  Some (Submit caller lease now timeout payload)
+submit_of _ = None
+
+unfoldable pub frame_of : List (List ℕ) → Option Call
+frame_of (a ∷ []) = do
+  bytes ← hex_of a
+  Some (Frame bytes)
+frame_of _ = None
+
+unfoldable pub send_of : List (List ℕ) → Option Call
+send_of [] = Some TakeSend
+send_of _ = None
+
+unfoldable pub ask_of : List (List ℕ) → Option Call
+ask_of words = do
+  p ← pair_of words
+  Some (AskLease p.0 p.1)
+
+unfoldable pub cancel_of : List (List ℕ) → Option Call
+cancel_of words = do
+  p ← pair_of words
+  Some (Cancel p.0 p.1)
+
+unfoldable pub collect_of : List (List ℕ) → Option Call
+collect_of words = do
+  p ← pair_of words
+  Some (Collect p.0 p.1)
+
+-- ---- a line
+
+unfoldable pub call_of : List ℕ → List (List ℕ) → Option Call
+call_of name words =
+    if bytes_eq name (codes "ask") then ask_of words
+    else (if bytes_eq name (codes "submit") then submit_of words
+    else (if bytes_eq name (codes "send") then send_of words
+    else (if bytes_eq name (codes "frame") then frame_of words
+    else (if bytes_eq name (codes "cancel") then cancel_of words
+    else (if bytes_eq name (codes "collect") then collect_of words else None)))))
+
+abbrev pub command_at : List ℕ → List (List ℕ) → Option Command
+command_at name words =
+    if bytes_eq name (codes "table") then (do
+      s ← table_of words
+      Some (Table s))
+    else (do
+      call ← call_of name words
+      Some (Calls call))
+
+unfoldable pub command_of : List (List ℕ) → Option Command
+command_of [] = None
+command_of (name ∷ words) = command_at name words
+
+-- ---- the first form
+
+abbrev pub is_further : ℕ → Bool
+is_further n = nat_le 3 n && nat_le n 63
+
+abbrev pub is_call_at : ℕ → Call → Bool
+is_call_at n (AskLease caller now) = (n == 2) && ((caller == 1) && (now == 0))
+is_call_at n (Submit caller lease now timeout payload) = is_further n && (caller == 1)
+is_call_at n TakeSend = is_further n
+is_call_at n (Frame bytes) = is_further n && is_whole bytes
+is_call_at n (Cancel caller id) = is_further n && (caller == 1)
+is_call_at n (Collect caller id) = is_further n && (caller == 1)
+
+abbrev pub is_at : ℕ → Command → Bool
+is_at n (Table s) = (n == 1) && ((s.share == 1) && ((s.lease_ms == 60000) && (s.wait_ms == 60000)))
+is_at n (Calls call) = is_call_at n call
