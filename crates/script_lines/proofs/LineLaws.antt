@@ -30,3 +30,10 @@ not_here n line words other command front found here h =
     let both : ◌≡◌ {A = Option Command} (Some other) (Some command) = sym found ∙ spelled in
     let same : other ≡ command = cc in
     false≢true (sym here ∙ ap (is_at n) same ∙ (at-Decides n command).1 h.1)
+
+pub same_command : (n : ℕ) (line : List ℕ) (command other : Command) → IsLine n line command → IsLine n line other → command ≡ other
+same_command n line command other h k =
+    let one = spelling-complete (words_of line) command h.0 in
+    let two = spelling-complete (words_of line) other k.0 in
+    let both : ◌≡◌ {A = Option Command} (Some command) (Some other) = sym one ∙ two in
+    cc

@@ -95,7 +95,11 @@ pair-sound (a ∷ b ∷ []) p h =
     option_and_then_some _ (within_of 1 1000 a) p h (λ caller ha h1.
     option_and_then_some _ (number_of b) p h1 (λ n hb h2.
     let read : IsPair (a ∷ b ∷ []) (caller, n) = record {
-      a = a; b = b; split = refl; caller = within-sound 1 1000 a caller ha; number = number-sound b n hb;
+      a = a;
+      b = b;
+      split = refl;
+      caller = within-sound 1 1000 a caller ha;
+      number = number-sound b n hb;
     } in
     let same : ◌≡◌ {A = ℕ × ℕ} (caller, n) p = cc in
     subst (IsPair (a ∷ b ∷ [])) same read))
@@ -159,7 +163,7 @@ submit-sound (a ∷ b ∷ c ∷ d ∷ e ∷ []) call h =
     option_and_then_some _ (within_of 1 3600000 d) call h3 (λ timeout hd h4.
     option_and_then_some _ (hex_of e) call h4 (λ payload he h5.
     let read : SpellsCall (codes "submit" ∷ a ∷ b ∷ c ∷ d ∷ e ∷ []) (Submit caller lease now timeout payload) =
-      (a, b, c, d, e, refl, within-sound 1 1000 a caller ha, number-sound b lease hb, number-sound c now hc, within-sound 1 3600000 d timeout hd, hex-sound e payload he) in
+    (a, b, c, d, e, refl, within-sound 1 1000 a caller ha, number-sound b lease hb, number-sound c now hc, within-sound 1 3600000 d timeout hd, hex-sound e payload he) in
     let same : Submit caller lease now timeout payload ≡ call = cc in
     subst (SpellsCall (codes "submit" ∷ a ∷ b ∷ c ∷ d ∷ e ∷ [])) same read)))))
 submit-sound (a ∷ b ∷ c ∷ d ∷ e ∷ f ∷ more) call h = cc

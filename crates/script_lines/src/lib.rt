@@ -1,11 +1,13 @@
 //! The lines of a script that runs a request table, as commands.
 #![tactic(auto)]
 
-mod calls;
 mod commands;
 mod places;
 mod reading;
+mod spellings;
+#[cfg(test)]
+mod tests;
 mod words;
 
 pub use commands::{Call, Command, LineFault};
-pub use reading::read_command;
+pub use reading::{one_command, read_command};

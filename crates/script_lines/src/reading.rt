@@ -1,12 +1,17 @@
-ghost use Rattle.std.specs.Prelude.{◌≡◌, Err, IfOk};
+ghost use Rattle.std.specs.Prelude.{◌≡◌, ℕ, List, Err, IfOk};
 ghost use Rattle.script_lines.specs.Scripts.{IsLine};
 ghost use Rattle.script_lines.specs.declared.commands.Command.{Command};
 
-use crate::calls::read_words;
 use crate::commands::{Command, LineFault};
 use crate::places::is_at;
+use crate::spellings::read_words;
 use crate::words::split_words;
 use std::alloc::Global;
+
+/// A line is at most one command.
+pub fn one_command()
+    ensures { (n : ℕ) (line : List ℕ) (command other : Command) → IsLine n line command → IsLine n line other → command ≡ other }
+{}
 
 /// Reads the line with this number, counted from 1, as a command of a script in the first form. The line is without
 /// its end.

@@ -10,14 +10,16 @@ use node_tree::{ByteList, OwnedList};
 use std::alloc::{AllocError, Global};
 use std::str;
 
-/// No command has more words than one less.
+/// One more than the words of the longest command.
 const MAX_WORDS: usize = 8;
 
 /// The words of a line, or as many as show that it has more than any command.
 pub fn split_words(alloc: Global, line: &[u8]) -> Result<Vec<&[u8]>, AllocError>
     ensures { IfOk result (λ words. map (λ w. w.now) words.items ≡ take 8 (words_of line.now)) }
 {
-    line.split(|byte| *byte == b' ').take(MAX_WORDS).collect(alloc)
+    line.split(|byte| *byte == b' ')
+        .take(MAX_WORDS)
+        .collect(alloc)
 }
 
 /// A number of decimal digits that 64 bits hold.

@@ -9,8 +9,8 @@ returns-in_err-command-clause-refused c =
     let words : List (List ℕ) = map (λ w. w.now) c.as_slice.result.now in
     let front : words ≡ take 8 (words_of c.args.line.now) = search rules in
     λ refused command line.
-      let none : command_of words ≡ None = search rules in
-      no_spelling c.args.number c.args.line.now words command front none line
+    let none : command_of words ≡ None = search rules in
+    no_spelling c.args.number c.args.line.now words command front none line
 
 pub returns-then-is_at-clause-read : goal.returns-then-is_at-clause-read
 returns-then-is_at-clause-read c =
@@ -23,4 +23,4 @@ returns-clause-refused c =
     let words : List (List ℕ) = map (λ w. w.now) c.as_slice.result.now in
     let front : words ≡ take 8 (words_of c.args.line.now) = search rules in
     λ refused command line.
-      not_here c.args.number c.args.line.now words c.in_ok-command.command command front c.in_ok-command.ensures (sym c.is_at.ensures ∙ c.if-is_at.false) line
+    not_here c.args.number c.args.line.now words c.in_ok-command.command command front c.in_ok-command.ensures (sym c.is_at.ensures ∙ c.if-is_at.false) line
