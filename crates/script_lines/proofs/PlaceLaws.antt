@@ -1,8 +1,7 @@
 -- Which command may stand at which line, as a test.
-use Rattle.std.proofs.Common.{◌≡◌, ℕ, ◌≤◌, Bool, true, false, arith}
+use Rattle.std.proofs.Common.{ℕ, arith}
 use Rattle.std.specs.Bool.{Decides}
 use Rattle.std.proofs.lemmas.Bool.Decides.{Decides-and, Decides-eqb, nat_tests}
-use Rattle.wire_frames.specs.RawFrames.{is_whole}
 use Rattle.script_lines.specs.declared.commands.Call.{Call}
 use Rattle.script_lines.specs.declared.commands.Call.TheVariants.{AskLease, Submit, TakeSend, Frame, Cancel, Collect}
 use Rattle.script_lines.specs.declared.commands.Command.{Command}

@@ -1,14 +1,14 @@
 -- What the readers of one word give is what the word spells.
-use Rattle.std.proofs.Common.{◌≡◌, ◌≢◌, ℕ, ◌<◌, ◌≤◌, ◌^◌, ◌&&◌, Bool, true, false, cond, eqb, List, [], ◌∷◌, length, Option, Some, None, Result, Ok, Err, refl, sym, ap, ◌∙◌, arith, rules, nat_lt, nat_le}
+use Rattle.std.proofs.Common.{◌≡◌, ℕ, ◌<◌, ◌^◌, ◌&&◌, Bool, true, false, cond, eqb, List, [], ◌∷◌, length, Option, Some, None, Result, Ok, Err, refl, ap, ◌∙◌, arith, nat_lt, nat_le}
 use Rattle.std.specs.Char.{is_ascii_digit}
 use Rattle.std.specs.List.{list_all}
 use Rattle.std.specs.Result.{result_ok}
-use Rattle.std.specs.Str.Parse.{IsNumeral, digits_value}
+use Rattle.std.specs.Str.Parse.{digits_value}
 use Rattle.std.proofs.lemmas.Bool.{and_parts, and_from, cond-true, cond-false, eqb-false, ne_eqb, ltb-true, leb-true, lt-ltb, le-leb}
 use Rattle.std.proofs.lemmas.Option.{option_and_then_some, cond_some}
 use Rattle.hex.specs.Hex.{decode_of}
 use Rattle.script_lines.specs.Reading.{number_of, within_of, hex_of}
-use Rattle.script_lines.specs.Scripts.{IsNumber, IsWithin, IsLong, IsHex}
+use Rattle.script_lines.specs.Scripts.{IsWithin, IsLong, IsHex}
 use Rattle.script_lines.proofs.NumberLaws.{digits_model}
 
 pub number-sound : (word : List ℕ) (n : ℕ) → number_of word ≡ Some n → IsLong word n

@@ -5,7 +5,6 @@ use Rattle.std.specs.Str.Parse.{IsNumeral, digits_value}
 use Rattle.hex.specs.Hex.{decode_of}
 use Rattle.wire_frames.specs.RawFrames.{is_whole}
 use Rattle.conn_core.specs.Tables.{IsSettings}
-use Rattle.conn_core.specs.declared.settings.Settings.{Settings}
 use Rattle.script_lines.specs.declared.commands.Call.{Call}
 use Rattle.script_lines.specs.declared.commands.Call.TheVariants.{AskLease, Submit, TakeSend, Frame, Cancel, Collect}
 use Rattle.script_lines.specs.declared.commands.Command.{Command}

@@ -1,9 +1,7 @@
-use Rattle.std.proofs.Common.{rules, tests, ◌≡◌, ℕ, ◌<◌, length, true, false, List, sym, ◌∙◌}
+use Rattle.std.proofs.Common.{rules, tests, sym, ◌∙◌}
 use Rattle.std.specs.Char.{is_ascii_digit}
-use Rattle.std.specs.List.{list_all}
 use Rattle.std.proofs.lemmas.Iterator.{YieldsList-from_slice}
 use Rattle.std.proofs.lemmas.Iterator.Search.{all_from_yields_List}
-use Rattle.script_lines.specs.Reading.{number_of}
 use Rattle.script_lines.proofs.NumberLaws.{other_byte, no_other_text, same_text, parse_is_number_of}
 use Rattle.script_lines.proofs.words.read_number.Goals as goal
 
