@@ -1,5 +1,5 @@
 -- How a request ends, by places in the journal alone.
-use Rattle.std.specs.Prelude.{◌≡◌, ℕ, ◌+◌, ◌<◌, ◌≤◌, max, Bool, true, false, List, [], ◌∷◌, take, Option, Some, None, Ok}
+use Rattle.std.specs.Prelude.{◌≡◌, ℕ, ◌+◌, ◌<◌, ◌≤◌, ◌==◌, max, Bool, true, false, List, [], ◌∷◌, take, Option, Some, None, Ok}
 use Rattle.std.specs.List.{slice_get, list_any}
 use Rattle.node_tree.specs.declared.readings.Reading.{Reading}
 use Rattle.wire_frames.specs.declared.asks.Ask.{Ask}
@@ -9,7 +9,7 @@ use Rattle.wire_frames.specs.declared.ends.Outcome.{Outcome}
 use Rattle.wire_frames.specs.declared.ends.Reason.{Reason}
 use Rattle.wire_frames.specs.declared.ends.Reason.TheVariants as reasons
 use Rattle.conn_core.specs.LeaseLists.{closes, held_after}
-use Rattle.conn_core.specs.Tables.{Connection, deadline_of, is_lease_of}
+use Rattle.conn_core.specs.Tables.{Connection, deadline_of}
 use Rattle.conn_core.specs.declared.entries.Answer.{Answer}
 use Rattle.conn_core.specs.declared.entries.Answer.TheVariants as answers
 use Rattle.conn_core.specs.declared.entries.Entry.{Entry}
@@ -71,9 +71,9 @@ clock_of journal = clock_from 0 journal
 abbrev pub request_deadline : {journal : List Entry} {id : ℕ} → Submitted journal id → ℕ
 request_deadline {journal} r = deadline_of (clock_of (take (r.place + 1) journal)) r.timeout
 
--- a request's lease is held by its actor after so many entries
+-- a request's lease is held after so many entries
 abbrev pub holds_after : {journal : List Entry} {id : ℕ} → Connection → Submitted journal id → ℕ → Bool
-holds_after {journal} c r k = list_any (is_lease_of r.actor r.lease) (held_after c.settings (take k journal))
+holds_after {journal} c r k = list_any (λ held. held.number == r.lease) (held_after c.settings (take k journal))
 
 -- why an entry closes
 abbrev pub reason_by : Event → Answer → Option Reason
@@ -84,7 +84,7 @@ reason_by _ answer = None
 
 -- what stands at a place ends a request, and how
 pub data EndsAs (c : Connection) (journal : List Entry) (id : ℕ) (r : Submitted journal id) (k : ℕ) : EndKind → Type 0 where
-  -- a frame that the table answers by it
+  -- a frame that is answered by its end
   answered : (actor : ℕ) (bytes : List ℕ) (kind : EndKind) → Stands journal k actor (events.Frame bytes) (answers.Ended id kind) → EndsAs c journal id r k kind
   -- its cancellation
   cancelled : (actor : ℕ) → Stands journal k actor (events.Cancel id) answers.Cancelled → EndsAs c journal id r k kinds.Cancelled

@@ -1,6 +1,6 @@
 use crate::{
-    AskRefusal, CancelRefusal, ConnState, FrameAnswer, LeaseAnswer, SendRefusal, Settings,
-    SubmitRefusal, TakeRefusal,
+    AskRefusal, CancelRefusal, ConnState, FrameAnswer, FrameRefusal, LeaseAnswer, SendRefusal,
+    Settings, SubmitRefusal, TakeRefusal,
 };
 use node_tree::OwnedList;
 use std::alloc::Global;
@@ -99,7 +99,7 @@ fn check_asked<W: Wire>(
     actor: u32,
     wanted: Result<LeaseAnswer, AskRefusal>,
 ) {
-    assert_eq!(rt; state.ask_lease(actor, 0), wanted);
+    assert_eq!(rt; state.ask_lease(actor, 7), wanted);
 }
 
 /// Takes what may go to another thread.
@@ -357,6 +357,9 @@ fn a_frame_that_cannot_be_read_closes_the_table(rt: HostRuntime) -> Result<(), F
     ];
     check_lines(&rt, alloc, &mut state, &lines)?;
     check_asked(&rt, &mut state, 2, Err(AskRefusal::Closed(reason)));
+    let later = OwnedList::from_slice(alloc, &[0, 4, 0, 1])?;
+    let answer = state.apply_frame(0, later);
+    assert_eq!(rt; answer, Err(FrameRefusal::Closed(reason)));
     assert_eq!(rt; state.journal().len(), 5);
     Ok(())
 }
@@ -381,7 +384,7 @@ fn a_full_window_and_another_caller(rt: HostRuntime) -> Result<(), Fail> {
         if !state.admits(&ask) {
             return Err(Fail::from("not admitted"));
         }
-        match state.submit(2, 1, ask, 1000, 0) {
+        match state.submit(2, 1, ask, 1000, 5) {
             Ok(accepted) => assert_eq!(rt; accepted.id, id),
             Err(_) => return Err(Fail::from("refused")),
         }
