@@ -1,4 +1,5 @@
 pub mod LineLaws
+pub mod LineTotal
 pub mod NumberLaws
 pub mod PlaceLaws
 pub mod SpellingLaws

@@ -1,5 +1,9 @@
+ghost use Rattle.std.specs.Prelude.{◌≡◌};
+ghost use Rattle.script_lines.specs.declared.commands.LineFault.TheVariants.{NoMemory};
+
 use conn_core::Settings;
 use node_tree::ByteList;
+use std::alloc::AllocError;
 
 /// A call on a request table, as a line of a script makes it. Moments and times are in milliseconds.
 #[derive(Debug, Drop)]
@@ -41,4 +45,12 @@ pub enum Command {
 pub enum LineFault {
     Refused,
     NoMemory,
+}
+
+impl From<AllocError> for LineFault {
+    ghost from_gives = { λ _ e. e ≡ NoMemory };
+
+    fn from(_error: AllocError) -> LineFault {
+        LineFault::NoMemory
+    }
 }
