@@ -5,8 +5,10 @@ pub mod FormReads
 pub mod FrontLemmas
 pub mod Fronts
 pub mod InputLemmas
+pub mod LineLemmas
 pub mod ListingLemmas
 pub mod NoRefusal
+pub mod ReplyLemmas
 pub mod RunLemmas
 pub mod StatusLemmas
 pub mod StreamLemmas

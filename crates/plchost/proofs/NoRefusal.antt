@@ -1,5 +1,5 @@
 -- No value of a description in the first form is refused.
-use Rattle.std.proofs.Common.{◌≡◌, ◌≢◌, ℕ, zero, suc, ◌+◌, ◌*◌, ◌%◌, ◌≤◌, Bool, true, false, List, [], ◌∷◌, length, take, drop, map, ltb, Option, Some, None, Result, Ok, Err, refl, inl, inr, ap, ◌∙◌, subst, arith}
+use Rattle.std.proofs.Common.{◌≡◌, ◌≢◌, ℕ, zero, suc, ◌+◌, ◌*◌, ◌%◌, ◌≤◌, Bool, true, false, List, [], ◌∷◌, length, take, drop, map, ltb, Option, Some, None, Result, Ok, Err, refl, inl, inr, ap, sym, ◌∙◌, subst, arith}
 use Rattle.std.specs.Prelude.{if◌then◌else◌}
 use Rattle.std.proofs.lemmas.Option.{slice_get_within}
 use Rattle.std.proofs.lemmas.Bool.Decides.{nat_tests}
@@ -25,7 +25,8 @@ use Rattle.plchost.specs.declared.inputs.How.TheVariants.{Ended, Failed, Over}
 use Rattle.plchost.specs.declared.tokens.Width.{Width}
 use Rattle.plchost.specs.declared.tokens.Width.TheVariants.{Bits8, Bits16, Bits32, Bits64}
 use Rattle.plchost.specs.FirstForm.{FirstForm, IsPlain, PlainField, PlainType, bits, field_tree, no_place, tree_of}
-use Rattle.plchost.specs.Tool.{Names, ComesTo, Result as RunResult, WordsRefused, FileFault, NotBuilt, TypeRefused, Values, input_limit, last_said, said}
+use Rattle.plchost.proofs.StatusLemmas.{not_script}
+use Rattle.plchost.specs.Tool.{Names, ComesTo, Result as RunResult, WordsRefused, FileFault, NotBuilt, TypeRefused, Values, Answers, input_limit, last_said, said}
 
 -- ---- numbers
 
@@ -149,10 +150,11 @@ never_6 text d def kind bytes readings (Some Over) End form named stream e = abs
 never_6 text d def kind bytes readings (Some Over) (TooFew left) form named stream e = absurd (omega (arith, e))
 
 -- no run by a description in the first form has the status of a refused value
-pub no_status_6 : (words : List (List ℕ)) (file : Option (List ℕ)) (taken : List ℕ) (how : Option How) (result : RunResult) → ComesTo words file taken result → (said how result).status ≢ 6
+pub no_status_6 : (words : List (List ℕ)) (file : Option (List ℕ)) (taken : List ℕ) (how : Option How) (result : RunResult) → ComesTo words file taken how result → (said how result).status ≢ 6
 no_status_6 words file taken how WordsRefused comes e = absurd (omega (arith, e))
 no_status_6 words file taken how FileFault comes e = absurd (omega (arith, e))
 no_status_6 words file taken how NotBuilt comes e = absurd (omega (arith, e))
 no_status_6 words file taken how TypeRefused comes e = absurd (omega (arith, e))
 no_status_6 words file taken how (Values d def readings ending) comes e =
     never_6 comes.2 d def comes.1 (take input_limit taken) readings how ending comes.5 comes.6 comes.7 e
+no_status_6 words file taken how (Answers text end) comes e = not_script how end 6 refl (sym e)

@@ -15,8 +15,12 @@ use Rattle.plchost.specs.declared.preparing.Refusal.TheVariants as refusals
 use Rattle.plchost.specs.FirstForm.{FirstForm}
 use Rattle.plchost.specs.Listing.{listing, fields_at}
 use Rattle.plchost.specs.Preparing.{ComesToRefusal, refusal_said}
-use Rattle.plchost.specs.Runs.{InputTaken}
-use Rattle.plchost.specs.Tool.{AreDecode, Names, ComesTo, WordsRefused, FileFault, NotBuilt, TypeRefused, Values, Said, Tool, IsFront, said, listings, last_said}
+use Rattle.plchost.specs.Lines.{lines_of}
+use Rattle.plchost.specs.Runs.{InputTaken, IsScriptFront, ShelfSeen}
+use Rattle.script_replay.specs.Replays.{Script}
+use Rattle.script_replay.specs.declared.replays.ScriptEnd.{ScriptEnd}
+use Rattle.plchost.proofs.StatusLemmas.{not_both}
+use Rattle.plchost.specs.Tool.{AreDecode, AreReplay, Answers, input_limit, script_last, Names, ComesTo, WordsRefused, FileFault, NotBuilt, TypeRefused, Values, Said, Tool, IsFront, said, listings, last_said}
 
 next_none : (tape : Option Tape) → AreNext [] tape
 next_none None = tt
@@ -39,19 +43,24 @@ refusal_tool words file refusals.TypeRefused h comes = (TypeRefused, comes [], t
 refusal_tool words file refusals.NoMemory h comes = absurd (h refl)
 
 -- the bytes that count
-pub counted : (n : ℕ) (bytes : List ℕ) → take (min (length bytes) n) bytes ≡ take n bytes
+counted : (n : ℕ) (bytes : List ℕ) → take (min (length bytes) n) bytes ≡ take n bytes
 counted n bytes = elim (within_or_past (length bytes) n) [
   | inl h ↦ ap (λ m. take m bytes) (omega arith) ∙ take_all (length bytes) bytes (omega arith) ∙ sym (take_all n bytes h)
   | inr h ↦ ap (λ m. take m bytes) (omega arith)
 ]
 
+-- the bytes that were read are those that count
+pub decoded : (n : ℕ) (items now : List ℕ) (len : ℕ) → now ≡ items → length now ≡ len → n ≡ min len 16777216 → take n now ≡ take 16777216 items
+decoded n items now len value long e =
+    ap (λ k. take k now) (e ∙ ap (λ k. min k 16777216) (sym long)) ∙ counted 16777216 now ∙ ap (λ xs. take 16777216 xs) value
+
 -- the words, the file and the type lead to these values
-pub comes_to_values : (words : List (List ℕ)) (name kind text taken bytes : List ℕ) (d : Description) (def : ℕ) (readings : List Reading) (ending : Ending) → AreDecode words name kind → FirstForm text d → Names d def kind → bytes ≡ take 16777216 taken → Stream d def [] bytes readings ending → ComesTo words (Some text) taken (Values d def readings ending)
-comes_to_values words name kind text taken bytes d def readings ending decode form named e stream =
+pub comes_to_values : (words : List (List ℕ)) (name kind text taken bytes : List ℕ) (how : Option How) (d : Description) (def : ℕ) (readings : List Reading) (ending : Ending) → AreDecode words name kind → FirstForm text d → Names d def kind → bytes ≡ take 16777216 taken → Stream d def [] bytes readings ending → ComesTo words (Some text) taken how (Values d def readings ending)
+comes_to_values words name kind text taken bytes how d def readings ending decode form named e stream =
     (name, kind, text, decode, refl, form, named, subst (λ (bs : List ℕ). Stream d def [] bs readings ending) e stream)
 
 -- the listings of the first values are a front
-pub front_of_values : (words : List (List ℕ)) (file : Option (List ℕ)) (taken : List ℕ) (how : Option How) (d : Description) (def : ℕ) (front back : List Reading) (ending : Ending) → ComesTo words file taken (Values d def (front ++ back) ending) → IsFront words file taken how (listings d def front)
+pub front_of_values : (words : List (List ℕ)) (file : Option (List ℕ)) (taken : List ℕ) (how : Option How) (d : Description) (def : ℕ) (front back : List Reading) (ending : Ending) → ComesTo words file taken how (Values d def (front ++ back) ending) → IsFront words file taken how (listings d def front)
 front_of_values words file taken how d def front back ending comes =
     let all = flat_map-append (λ (r : Reading). listing (fields_at d def) r.node) front back in
     inr (
@@ -62,15 +71,39 @@ front_of_values words file taken how d def front back ending comes =
     )
 
 -- the listings of all values are a front
-pub front_before_last : (words : List (List ℕ)) (file : Option (List ℕ)) (taken : List ℕ) (how : Option How) (d : Description) (def : ℕ) (readings : List Reading) (ending : Ending) → ComesTo words file taken (Values d def readings ending) → IsFront words file taken how (listings d def readings)
+pub front_before_last : (words : List (List ℕ)) (file : Option (List ℕ)) (taken : List ℕ) (how : Option How) (d : Description) (def : ℕ) (readings : List Reading) (ending : Ending) → ComesTo words file taken how (Values d def readings ending) → IsFront words file taken how (listings d def readings)
 front_before_last words file taken how d def readings ending comes =
     inr (Values d def readings ending, (last_said how ending).text, comes, refl)
 
 -- the values, read to their end
-pub values_tool : (words : List (List ℕ)) (file : Option (List ℕ)) (taken : List ℕ) (how : How) (d : Description) (def : ℕ) (readings : List Reading) (ending : Ending) → ComesTo words file taken (Values d def readings ending) → Tool words file taken (Some how) (said (Some how) (Values d def readings ending))
+pub values_tool : (words : List (List ℕ)) (file : Option (List ℕ)) (taken : List ℕ) (how : How) (d : Description) (def : ℕ) (readings : List Reading) (ending : Ending) → ComesTo words file taken (Some how) (Values d def readings ending) → Tool words file taken (Some how) (said (Some how) (Values d def readings ending))
 values_tool words file taken how d def readings ending comes = (Values d def readings ending, comes, tt, refl)
 
 -- the text of a run is a front of itself
 pub front_of_tool : (words : List (List ℕ)) (file : Option (List ℕ)) (taken : List ℕ) (how : Option How) (told : Said) → Tool words file taken how told → IsFront words file taken how told.text
 front_of_tool words file taken how told tool =
     inr (tool.0, [], tool.1, append-nil told.text ∙ ap (λ (s : Said). s.text) tool.3)
+
+-- ---- scripts
+
+-- no file is named by the words of a script
+pub shelf_alone : (words : List (List ℕ)) (faults : List ℕ → ℕ) (counts_with : List ℕ → List ℕ → Type 0) (told : List ℕ → Option (List ℕ)) (file : Option (List ℕ)) → AreReplay words → ShelfSeen words faults faults counts_with told file
+shelf_alone words faults counts_with told file replay =
+    record { named = λ name kind decode. absurd (not_both words name kind decode replay); others = λ other h. refl }
+
+pub script_tool : (words : List (List ℕ)) (file : Option (List ℕ)) (taken : List ℕ) (how : How) (text : List ℕ) (end : ScriptEnd) → AreReplay words → Script (lines_of (Some how) (take input_limit taken)) text end → Tool words file taken (Some how) (said (Some how) (Answers text end))
+script_tool words file taken how text end replay script = (Answers text end, (replay, script), tt, refl)
+
+pub front_of_script : (words : List (List ℕ)) (file : Option (List ℕ)) (taken : List ℕ) (how : Option How) (front : List ℕ) → AreReplay words → IsScriptFront how taken front → IsFront words file taken how front
+front_of_script words file taken how front replay is =
+    elim is [
+      | inl none ↦ inl none
+      | inr s ↦
+          let last = (script_last how s.2).text in
+          inr (
+            Answers s.0 s.2,
+            s.1 ++ last,
+            (replay, s.3),
+            sym (append_assoc front s.1 last) ∙ ap (λ (xs : List ℕ). xs ++ last) s.4,
+          )
+    ]

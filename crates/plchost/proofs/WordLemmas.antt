@@ -1,5 +1,6 @@
 -- A list of three words.
 use Rattle.std.proofs.Common.{◌≡◌, ℕ, ◌<◌, true, false, List, [], ◌∷◌, length, get_or, codes, slice_get, Some, sym, ap, ◌∙◌, arith}
+use Rattle.std.specs.Prelude.{IsTrue, ◌↔◌}
 use Rattle.std.specs.Str.{bytes_eq}
 use Rattle.std.proofs.lemmas.Bool.{false≢true}
 use Rattle.std.proofs.lemmas.Option.{slice_get-get_or}
@@ -27,3 +28,16 @@ pub one_decode : (words : List (List ℕ)) (name kind other type : List ℕ) →
 one_decode words name kind other type a b =
     let same : codes "decode" ∷ name ∷ kind ∷ [] ≡ codes "decode" ∷ other ∷ type ∷ [] = sym a.spelled ∙ b.spelled in
     (cc, cc)
+
+pub of_one : (words : List (List ℕ)) (a : List ℕ) → length words ≡ 1 → slice_get words 0 ≡ Some a → words ≡ a ∷ []
+of_one [] a n p = absurd (omega (arith, n))
+of_one (x ∷ []) a n p = cc
+of_one (x ∷ y ∷ more) a n p = absurd (omega (arith, n))
+
+-- one word is a command's where it is that command's name
+pub one_word : (words : List (List ℕ)) (a name : List ℕ) → length words ≡ 1 → slice_get words 0 ≡ Some a → IsTrue (bytes_eq a name) ↔ (words ≡ name ∷ [])
+one_word words a name n p =
+    let one = of_one words a n p in (
+      λ h. one ∙ ap (λ word. word ∷ []) ((bytes_eq-Decides a name).0 h),
+      λ e. (bytes_eq-Decides a name).1 (let same : a ∷ [] ≡ name ∷ [] = sym one ∙ e in cc),
+    )

@@ -1,5 +1,6 @@
 pub mod Endings
 pub mod FirstForm
+pub mod Lines
 pub mod Listing
 pub mod Preparing
 pub mod Reading

@@ -10,10 +10,10 @@ use Rattle.plchost.specs.Tool.{ComesTo, WordsRefused, FileFault, NotBuilt, TypeR
 
 -- the run comes to this refusal, unless memory ran out
 abbrev pub ComesToRefusal : (words : List (List ℕ)) → (file : Option (List ℕ)) → (taken : List ℕ) → Refusal → Type 0
-ComesToRefusal words file taken refusals.WordsRefused = ComesTo words file taken WordsRefused
-ComesToRefusal words file taken refusals.FileFault = ComesTo words file taken FileFault
-ComesToRefusal words file taken refusals.NotBuilt = ComesTo words file taken NotBuilt
-ComesToRefusal words file taken refusals.TypeRefused = ComesTo words file taken TypeRefused
+ComesToRefusal words file taken refusals.WordsRefused = ComesTo words file taken None WordsRefused
+ComesToRefusal words file taken refusals.FileFault = ComesTo words file taken None FileFault
+ComesToRefusal words file taken refusals.NotBuilt = ComesTo words file taken None NotBuilt
+ComesToRefusal words file taken refusals.TypeRefused = ComesTo words file taken None TypeRefused
 ComesToRefusal words file taken refusals.NoMemory = Unit {0}
 
 -- the refusal that a fault of the file or of its text comes to

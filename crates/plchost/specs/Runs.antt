@@ -1,11 +1,14 @@
 -- What a run of the program did with its streams, as they tell it and by their counts.
-use Rattle.std.specs.Prelude.{ℕ, ◌≡◌, ◌+◌, ◌≤◌, ◌⊎◌, List, ◌++◌, length, Option, Some, None, IfSome}
+use Rattle.std.specs.Prelude.{ℕ, ◌≡◌, ◌+◌, ◌≤◌, ◌⊎◌, List, [], ◌++◌, take, length, Option, Some, None, IfSome}
 use Rattle.link_io.specs.Counts.{Rose}
 use Rattle.link_io.specs.Streams.{Tape, after_giving, AreNext, IsAtEnd, after_taking}
 use Rattle.plchost.specs.declared.inputs.How.{How}
 use Rattle.plchost.specs.declared.inputs.How.TheVariants.{Ended, Failed, Over}
 use Rattle.mspec_tree.specs.declared.defs.Description.{Description}
+use Rattle.script_replay.specs.Replays.{Script}
+use Rattle.script_replay.specs.declared.replays.ScriptEnd.{ScriptEnd}
 use Rattle.plchost.specs.FirstForm.{FirstForm}
+use Rattle.plchost.specs.Lines.{lines_of}
 use Rattle.plchost.specs.Tool.{AreDecode, Names, input_limit}
 
 -- How the input was left, by its two counts and the bytes that were taken.
@@ -54,3 +57,9 @@ IsReady words faults faults' counts_with told d def =
 -- the statuses of a run that stops before it reads its input
 abbrev pub StopsEarly : ℕ → Type 0
 StopsEarly status = (status ≡ 1) ⊎ ((status ≡ 2) ⊎ ((status ≡ 3) ⊎ (status ≡ 12)))
+
+-- a front of the answers of an input's lines
+abbrev pub IsScriptFront : Option How → (taken front : List ℕ) → Type 0
+IsScriptFront how taken front =
+    (front ≡ [])
+    ⊎ ((text rest : List ℕ) × (end : ScriptEnd) × Script (lines_of how (take input_limit taken)) text end × (front ++ rest ≡ text))

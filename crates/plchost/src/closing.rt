@@ -2,41 +2,22 @@ ghost use Rattle.std.specs.Prelude.{◌≡◌, ℕ, List, ◌++◌, codes, Some,
 ghost use Rattle.std.specs.Fmt.{decimal};
 ghost use Rattle.plchost.specs.Endings.{ending_of, why_of};
 ghost use Rattle.plchost.specs.Preparing.{refusal_said};
-ghost use Rattle.plchost.specs.Tool.{read_why, why_text, last_said};
+ghost use Rattle.plchost.specs.Tool.{why_text, last_said, line_refused, script_last};
 
 use crate::faults::Cut;
 use crate::inputs::How;
 use crate::preparing::Refusal;
 use crate::values::{Rest, ValueWhy};
+use answer_texts::read_why_text;
 use itoa::Buffer;
-use node_tree::ReadWhy;
+use script_replay::ScriptEnd;
 use std::alloc::{AllocError, Global};
-
-/// The name of a reason.
-fn read_why(why: ReadWhy) -> &'static [u8]
-    ensures { result.now ≡ read_why why }
-{
-    match why {
-        ReadWhy::ConstMismatch => b"ConstMismatch",
-        ReadWhy::NoCase => b"NoCase",
-        ReadWhy::CountRange => b"CountRange",
-        ReadWhy::LengthOverrun => b"LengthOverrun",
-        ReadWhy::ZeroItem => b"ZeroItem",
-        ReadWhy::ValueRange => b"ValueRange",
-        ReadWhy::ChecksumMismatch => b"ChecksumMismatch",
-        ReadWhy::NullAccess => b"NullAccess",
-        ReadWhy::CastFails => b"CastFails",
-        ReadWhy::EnumAttr => b"EnumAttr",
-        ReadWhy::TooDeep => b"TooDeep",
-        ReadWhy::TooLong => b"TooLong",
-    }
-}
 
 fn why_text(why: ValueWhy) -> &'static [u8]
     ensures { result.now ≡ why_text (why_of why) }
 {
     match why {
-        ValueWhy::Reading(why) => read_why(why),
+        ValueWhy::Reading(why) => read_why_text(why),
         ValueWhy::PartOfByte => b"Unaligned",
     }
 }
@@ -53,14 +34,23 @@ fn refused_line(alloc: Global, bit: u64, why: ValueWhy) -> Result<Vec<u8>, Alloc
     Ok(line)
 }
 
-fn truncated_line(alloc: Global, left: u64) -> Result<Vec<u8>, AllocError>
-    ensures { IfOk result (λ line. line.items ≡ codes "truncated " ++ decimal left ++ codes "\n") }
+fn numbered_line(alloc: Global, words: &[u8], number: u64) -> Result<Vec<u8>, AllocError>
+    ensures { IfOk result (λ line. line.items ≡ words.now ++ decimal number ++ codes "\n") }
 {
     let mut buffer = Buffer::new();
-    let mut line = Vec::from_slice(alloc, b"truncated ")?;
-    line.extend_from_slice(buffer.format(left).as_bytes())?;
+    let mut line = Vec::from_slice(alloc, words)?;
+    line.extend_from_slice(buffer.format(number).as_bytes())?;
     line.extend_from_slice(b"\n")?;
     Ok(line)
+}
+
+/// Adds a last line and answers its status. An `Err` changes nothing.
+fn add_last(gathered: &mut Vec<u8>, line: &[u8], status: u8) -> Result<u8, AllocError>
+    ensures closed { IfOk result (λ answer. (gathered.new.items ≡ gathered.old.items ++ line.now) × (answer ≡ status)) }
+    ensures unchanged { IfErr result (λ _. gathered.new.items ≡ gathered.old.items) }
+{
+    gathered.extend_from_slice(line)?;
+    Ok(status)
 }
 
 /// Adds the last line of values that end so, in an input that was left so, and answers the status. An `Err`
@@ -71,25 +61,46 @@ pub fn close(alloc: Global, gathered: &mut Vec<u8>, how: How, rest: Rest) -> Res
     ensures unchanged { IfErr result (λ _. gathered.new.items ≡ gathered.old.items) }
 {
     match (rest, how) {
-        (Rest::Bad { bit, why }, _) => {
-            let line = refused_line(alloc, bit, why)?;
-            gathered.extend_from_slice(&line)?;
-            Ok(6)
-        }
-        (_, How::Failed) => {
-            gathered.extend_from_slice(b"read fault\n")?;
-            Ok(4)
-        }
-        (_, How::Over) => {
-            gathered.extend_from_slice(b"input too long\n")?;
-            Ok(13)
-        }
+        (Rest::Bad { bit, why }, _) => add_last(gathered, &refused_line(alloc, bit, why)?, 6),
+        (_, How::Failed) => add_last(gathered, b"read fault\n", 4),
+        (_, How::Over) => add_last(gathered, b"input too long\n", 13),
         (Rest::Short { left }, How::Ended) => {
-            let line = truncated_line(alloc, left)?;
-            gathered.extend_from_slice(&line)?;
-            Ok(7)
+            add_last(gathered, &numbered_line(alloc, b"truncated ", left)?, 7)
         }
         (Rest::Whole, How::Ended) => Ok(0),
+    }
+}
+
+fn refuse_line(alloc: Global, gathered: &mut Vec<u8>, line: u64) -> Result<u8, AllocError>
+    ensures closed { IfOk result (λ status. (gathered.new.items ≡ gathered.old.items ++ (line_refused line).text) × (status ≡ 10)) }
+    ensures unchanged { IfErr result (λ _. gathered.new.items ≡ gathered.old.items) }
+{
+    add_last(gathered, &numbered_line(alloc, b"line refused ", line)?, 10)
+}
+
+/// Adds the last line of a script whose lines end so, in an input that was left so, and answers the status. An
+/// `Err` changes nothing.
+pub fn close_script(
+    alloc: Global,
+    gathered: &mut Vec<u8>,
+    how: How,
+    end: ScriptEnd,
+) -> Result<u8, AllocError>
+    ensures closed { IfOk result (λ status. let said = script_last (Some how) end in
+        (gathered.new.items ≡ gathered.old.items ++ said.text) × (status ≡ said.status)) }
+    ensures unchanged { IfErr result (λ _. gathered.new.items ≡ gathered.old.items) }
+{
+    match (how, end) {
+        (_, ScriptEnd::Refused { line }) => refuse_line(alloc, gathered, line),
+        (How::Failed, _) => add_last(gathered, b"read fault\n", 4),
+        (How::Over, _) => add_last(gathered, b"input too long\n", 13),
+        (How::Ended, ScriptEnd::Answered { next, entries }) => {
+            if next < 3 {
+                refuse_line(alloc, gathered, next)
+            } else {
+                add_last(gathered, &numbered_line(alloc, b"entries ", entries)?, 0)
+            }
+        }
     }
 }
 

@@ -1,5 +1,6 @@
-ghost use Rattle.std.specs.Prelude.{ℕ, List, Option, Some, IfOk, IfErr};
+ghost use Rattle.std.specs.Prelude.{◌≡◌, ℕ, List, Option, Some, IfOk, IfErr};
 ghost use Rattle.plchost.specs.declared.inputs.How.{How};
+ghost use Rattle.plchost.specs.Lines.{has_ended};
 ghost use Rattle.plchost.specs.Runs.{InputTaken};
 
 use link_io::Source;
@@ -17,6 +18,15 @@ pub enum How {
     Ended,
     Failed,
     Over,
+}
+
+impl How {
+    /// Whether the input came to its end.
+    pub fn has_ended(self) -> bool
+        ensures { result ≡ has_ended (Some self) }
+    {
+        matches!(self, How::Ended)
+    }
 }
 
 /// The bytes that were taken from an input, at most one more than count, and how it was left.

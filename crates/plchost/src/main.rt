@@ -1,15 +1,21 @@
 //! The program `plchost`: a compiler of mspec, the language of Apache PLC4X's protocol descriptions. So far it
-//! decodes captures by descriptions in the first form.
+//! decodes captures by descriptions in the first form, and runs scripts of the request table.
 #![tactic(auto)]
 
 mod closing;
+mod decoding;
 mod faults;
 mod files;
 mod inputs;
+mod lines;
 mod listings;
 mod plain_types;
 mod preparing;
 mod printing;
+mod replaying;
+mod replies;
+#[cfg(test)]
+mod script_tests;
 #[cfg(test)]
 mod tests;
 mod tokens;

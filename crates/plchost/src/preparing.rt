@@ -1,7 +1,7 @@
 ghost use Rattle.std.specs.Prelude.{◌≡◌, ◌<◌, ◌≤◌, ℕ, List, Some, Option, length, IfOk, IfErr, MatchOption};
 ghost use Rattle.mspec_tree.specs.declared.defs.Description.{Description};
 ghost use Rattle.mspec_meaning.specs.Plain.{CanRead};
-ghost use Rattle.plchost.specs.Tool.{Names};
+ghost use Rattle.plchost.specs.Tool.{AreReplay, Names};
 ghost use Rattle.plchost.specs.Runs.{ShelfSeen, IsReady};
 ghost use Rattle.plchost.specs.Preparing.{ComesToRefusal, from_file, from_form};
 
@@ -50,6 +50,7 @@ pub fn prepare<F: Shelf>(
     words: &StringList,
     files: &mut F,
 ) -> Result<Prepared, Refusal>
+    requires { AreReplay words.now → ⊥ }
     ensures ready { IfOk result (λ ready.
         IsReady words.now (F.faults files.old) (F.faults files.new) F.counts_with (F.file files.old) ready.description ready.def) }
     ensures files { (other : List ℕ) → F.file files.new other ≡ F.file files.old other }

@@ -1,8 +1,12 @@
-ghost use Rattle.std.specs.Prelude.{◌≡◌, ◌≤◌, ℕ, List, ◌++◌, IfOk, OnOk, OnErr};
+ghost use Rattle.std.specs.Prelude.{◌≡◌, ◌≤◌, ℕ, List, [], ◌++◌, IfOk, OnOk, OnErr};
 ghost use Rattle.link_io.specs.Counts.{Rose};
 ghost use Rattle.link_io.specs.Streams.{after_taking};
+ghost use Rattle.plchost.specs.Runs.{Adds, PutsFront};
 
 use link_io::{Failed, Sink};
+
+/// How many bytes are gathered before they are put out.
+const ENOUGH: usize = 65_536;
 
 /// Puts all bytes out. A write that takes no byte is a fault. What went out before a fault is a front of the bytes.
 pub fn put_all<K: Sink>(out: &mut K, bytes: &[u8]) -> Result<(), Failed>
@@ -20,6 +24,20 @@ pub fn put_all<K: Sink>(out: &mut K, bytes: &[u8]) -> Result<(), Failed>
             return Err(Failed);
         }
         rest = &rest[count..];
+    }
+    Ok(())
+}
+
+/// Puts what is gathered out once it is large.
+pub fn put_large<K: Sink>(out: &mut K, gathered: &mut Vec<u8>) -> Result<(), Failed>
+    ensures added { OnOk result (Adds (K.held out.old) (K.held out.new) gathered.old.items gathered.new.items []) }
+    ensures no_fault { OnOk result (K.faults out.new ≡ K.faults out.old) }
+    ensures front { OnErr result (PutsFront (K.held out.old) (K.held out.new) gathered.old.items) }
+    ensures fault { OnErr result (Rose (K.faults out.old) (K.faults out.new)) }
+{
+    if gathered.len() >= ENOUGH {
+        put_all(out, gathered)?;
+        gathered.clear();
     }
     Ok(())
 }

@@ -10,13 +10,13 @@ const P: &[u8] = b"[type P [simple uint 8 a] [simple uint 16 b]]";
 
 /// The numbers of the calls that fail, from 1.
 #[derive(Clone, Copy)]
-struct Failing<'a> {
-    reads: &'a [u64],
-    file_reads: &'a [u64],
-    writes: &'a [u64],
+pub struct Failing<'a> {
+    pub reads: &'a [u64],
+    pub file_reads: &'a [u64],
+    pub writes: &'a [u64],
 }
 
-const NONE_FAILS: Failing<'static> = Failing {
+pub const NONE_FAILS: Failing<'static> = Failing {
     reads: &[],
     file_reads: &[],
     writes: &[],
@@ -24,12 +24,12 @@ const NONE_FAILS: Failing<'static> = Failing {
 
 /// What a run put out, and its status.
 #[derive(Drop)]
-struct Ran {
-    text: Vec<u8>,
-    status: u8,
+pub struct Ran {
+    pub text: Vec<u8>,
+    pub status: u8,
 }
 
-fn string_list(alloc: Global, words: &[&str]) -> Result<StringList, AllocError> {
+pub fn string_list(alloc: Global, words: &[&str]) -> Result<StringList, AllocError> {
     let mut list = StringList::new(alloc);
     for word in words {
         list.push(String::from_str(alloc, word)?)?;
@@ -38,7 +38,7 @@ fn string_list(alloc: Global, words: &[&str]) -> Result<StringList, AllocError> 
 }
 
 /// Runs the program over a shelf with the one file `p`, in pieces of at most `piece` bytes.
-fn run(
+pub fn run(
     alloc: Global,
     words: &[&str],
     text: &[u8],
@@ -115,8 +115,11 @@ fn decodes_values_and_says_what_is_wrong(rt: HostRuntime) -> Result<(), Fail> {
 
 #[test]
 fn refuses_words_and_files(rt: HostRuntime) -> Result<(), Fail> {
-    let refused: [&[&str]; 9] = [
+    let refused: [&[&str]; 12] = [
         &[],
+        &["replay", "p"],
+        &["replays"],
+        &["Replay"],
         &["frob"],
         &["--help"],
         &["decode"],

@@ -4,15 +4,14 @@ ghost use Rattle.link_io.specs.Streams.{after_giving, after_taking};
 ghost use Rattle.mspec_tree.specs.declared.defs.Description.{Description};
 ghost use Rattle.plchost.specs.FirstForm.{FirstForm};
 ghost use Rattle.plchost.specs.declared.inputs.How.{How};
-ghost use Rattle.plchost.specs.Tool.{AreDecode, Names, Said, Tool, IsFront, input_limit};
+ghost use Rattle.plchost.specs.Tool.{AreDecode, AreRefused, AreReplay, Names, Said, Tool, IsFront, input_limit};
 ghost use Rattle.plchost.specs.Runs.{Adds, PutsFront, ShelfSeen, InputTaken, IsReady, StopsEarly};
 
-use crate::closing::{close, say};
+use crate::decoding::decode;
 use crate::faults::Cut;
-use crate::inputs::{INPUT_LIMIT, read_input};
-use crate::preparing::prepare;
 use crate::printing::put_all;
-use crate::values::put_values;
+use crate::replaying::replay;
+use crate::words::is_replay;
 use link_io::{Failed, Shelf, Sink, Source, StringList};
 use std::alloc::Global;
 
@@ -42,7 +41,7 @@ fn run<F: Shelf, S: Source, K: Sink>(
         × (status ≡ told.status)) }
     ensures files { (other : List ℕ) → F.file files.new other ≡ F.file files.old other }
     ensures touched { (input.new ≡ input.old) ⊎ ((d : Description) × (def : ℕ)
-        × IsReady words.now (F.faults files.old) (F.faults files.new) F.counts_with (F.file files.old) d def) }
+        × IsReady words.now (F.faults files.old) (F.faults files.new) F.counts_with (F.file files.old) d def) ⊎ AreReplay words.now }
     ensures untouched { IfOk result (λ status. StopsEarly status → input.new ≡ input.old) }
     ensures no_fault { result ≡ Err Cut.WriteFault ⊎ (K.faults out.new ≡ K.faults out.old) }
     ensures no_memory { result ≡ Err Cut.NoMemory → (file : Option (List ℕ)) × (taken : List ℕ) × (how : Option How) × (front : List ℕ)
@@ -57,22 +56,11 @@ fn run<F: Shelf, S: Source, K: Sink>(
         × PutsFront (K.held out.old) (K.held out.new) (gathered.old.items ++ front) }
     ensures fault { result ≡ Err Cut.WriteFault → Rose (K.faults out.old) (K.faults out.new) }
 {
-    let ready = match prepare(alloc, words, files) {
-        Ok(ready) => ready,
-        Err(refusal) => return say(gathered, refusal),
-    };
-    let capture = read_input(alloc, input)?;
-    let counted = capture.bytes.len().min(INPUT_LIMIT);
-    let rest = put_values(
-        alloc,
-        out,
-        gathered,
-        &ready.description,
-        ready.def,
-        &capture.bytes[..counted],
-    )?;
-    let status = close(alloc, gathered, capture.how, rest)?;
-    Ok(status)
+    if is_replay(words) {
+        replay(alloc, input, out, gathered)
+    } else {
+        decode(alloc, words, files, input, out, gathered)
+    }
 }
 
 /// Puts the rest of a run's text out, and its last line, and answers its status, or that of a write fault.
@@ -118,9 +106,10 @@ fn conclude<F: Shelf, S: Source, K: Sink>(
         × (result ≡ told.status) }
     // It leaves every file.
     ensures files { (other : List ℕ) → F.file files.new other ≡ F.file files.old other }
-    // The input is touched only where the words, the file and the type lead to values, and not where it stops early.
+    // The input is touched only where the words, the file and the type lead to values, or a script is to be run, and not
+    // where the run stops early.
     ensures touched { (input.new ≡ input.old) ⊎ ((d : Description) × (def : ℕ)
-        × IsReady words.now (F.faults files.old) (F.faults files.new) F.counts_with (F.file files.old) d def) }
+        × IsReady words.now (F.faults files.old) (F.faults files.new) F.counts_with (F.file files.old) d def) ⊎ AreReplay words.now }
     ensures untouched { StopsEarly result → input.new ≡ input.old }
     // Where memory ran out it is a front of that text, and then a line that says so.
     ensures no_memory { result ≡ 8 → (file : Option (List ℕ)) × (taken : List ℕ) × (how : Option How) × (front : List ℕ)
@@ -148,8 +137,9 @@ fn conclude<F: Shelf, S: Source, K: Sink>(
 
 /// Runs the program's commands over files, an input and an output, and answers the status.
 ///
-/// So far there is one command, `decode FILE TYPE`: FILE names a description in the first form, and the input is
-/// read as values of TYPE one after another, each put out as its listing and an empty line.
+/// `decode FILE TYPE`: FILE names a description in the first form, and the input is read as values of TYPE one after
+/// another, each put out as its listing and an empty line. `replay`: the input is a script in the first form, and each line
+/// but the first is put out as its answer, and at the end how many entries the journal has.
 pub fn tool_main<F: Shelf, S: Source, K: Sink>(
     alloc: Global,
     words: &StringList,
@@ -166,9 +156,10 @@ pub fn tool_main<F: Shelf, S: Source, K: Sink>(
         × (result ≡ told.status) }
     // It leaves every file.
     ensures files { (other : List ℕ) → F.file files.new other ≡ F.file files.old other }
-    // The input is touched only where the words, the file and the type lead to values, and not where it stops early.
+    // The input is touched only where the words, the file and the type lead to values, or a script is to be run, and not
+    // where the run stops early.
     ensures touched { (input.new ≡ input.old) ⊎ ((d : Description) × (def : ℕ)
-        × IsReady words.now (F.faults files.old) (F.faults files.new) F.counts_with (F.file files.old) d def) }
+        × IsReady words.now (F.faults files.old) (F.faults files.new) F.counts_with (F.file files.old) d def) ⊎ AreReplay words.now }
     ensures untouched { StopsEarly result → input.new ≡ input.old }
     // Where memory ran out it is a front of that text, and then a line that says so.
     ensures no_memory { result ≡ 8 → (file : Option (List ℕ)) × (taken : List ℕ) × (how : Option How) × (front : List ℕ)
@@ -187,8 +178,10 @@ pub fn tool_main<F: Shelf, S: Source, K: Sink>(
     ensures out_well { result ≢ 5 → K.faults out.new ≡ K.faults out.old }
 
     // The words are refused where they aren't those of a command, and nowhere else.
-    ensures words_refused { result ≡ 2 → (name kind : List ℕ) → AreDecode words.now name kind → ⊥ }
-    ensures only_commands { ((name kind : List ℕ) → AreDecode words.now name kind → ⊥) → (result ≡ 2) ⊎ ((result ≡ 5) ⊎ (result ≡ 8)) }
+    ensures words_refused { result ≡ 2 → AreRefused words.now }
+    ensures only_commands { AreRefused words.now → (result ≡ 2) ⊎ ((result ≡ 5) ⊎ (result ≡ 8)) }
+    // Only a line of a script is refused.
+    ensures line_refused { result ≡ 10 → AreReplay words.now }
     // The text is outside the first form, or has no type of that name.
     ensures not_built { result ≡ 1 → (name kind text : List ℕ) × AreDecode words.now name kind
         × IfSome (F.file files.old name) (λ bytes. text ≡ bytes)

@@ -1,5 +1,5 @@
 ghost use Rattle.std.specs.Prelude.{◌≡◌, ℕ, List, [], ◌∷◌, IsTrue, ◌↔◌, MatchOption};
-ghost use Rattle.plchost.specs.Tool.{AreDecode, IsPositional};
+ghost use Rattle.plchost.specs.Tool.{AreDecode, AreReplay, IsPositional};
 
 use link_io::StringList;
 
@@ -37,5 +37,15 @@ pub fn decode_words(words: &StringList) -> Option<DecodeWords<'_>>
         })
     } else {
         None
+    }
+}
+
+/// Whether the words are `replay`.
+pub fn is_replay(words: &StringList) -> bool
+    ensures { IsTrue result ↔ AreReplay words.now }
+{
+    match words.get(0) {
+        Some(command) if words.len() == 1 => command == "replay",
+        _ => false,
     }
 }

@@ -1,132 +1,40 @@
-use Rattle.std.proofs.Common.{◌≡◌, ℕ, List, [], ◌++◌, length, take, min, Some, None, vec_len, inl, refl, ap, sym, ◌∙◌}
-use Rattle.std.proofs.lemmas.Result.{err_from_is_err_and, IfErr-at_err}
-use Rattle.plchost.specs.declared.faults.Cut.TheVariants.{NoMemory}
-use Rattle.plchost.specs.Endings.{ending_of}
-use Rattle.plchost.specs.Preparing.{refusal_said}
-use Rattle.plchost.specs.Tool.{listings, last_said, said, Values}
-use Rattle.plchost.proofs.FormReads.{form_reads}
-use Rattle.plchost.proofs.RunLemmas.{Adds-more, Adds-same, Adds-nothing, Adds-gathered}
-use Rattle.plchost.proofs.ToolLemmas.{untouched, both_ok, refusal_tool, counted, comes_to_values, front_of_values, front_before_last, values_tool}
-use Rattle.plchost.proofs.StatusLemmas.{not_early}
+use Rattle.std.proofs.Common.{None, Some}
+use Rattle.std.proofs.lemmas.Result.{IfOk-weaker}
+use Rattle.plchost.specs.Tool.{Answers, said}
+use Rattle.plchost.proofs.StatusLemmas.{script_not_early}
+use Rattle.plchost.proofs.ToolLemmas.{shelf_alone, script_tool, front_of_script}
 use Rattle.plchost.proofs.tool.run.Goals as goal
 
-pub returns-in-Err-clause-said : goal.returns-in-Err-clause-said
-returns-in-Err-clause-said g c =
-    let refused = c.in-Err.ensures.refused in
-    let tape = g.S.Source.told c.args.input.now in
-    let alone = untouched tape (g.S.Source.ends c.args.input.now) (g.S.Source.faults c.args.input.now) in
-    let held = g.K.Sink.held c.args.out.now in
-    let t0 = c.args.gathered.now.items in
-    let t1 = c.say.new.gathered.items in
-    both_ok c.say.result _ _ _ c.say.ensures.said c.say.ensures.memory
-    (λ status added memory. (refused.0, [], None, refusal_said c.in-Err.refusal, refused.1, alone, refusal_tool c.args.words.now refused.0 c.in-Err.refusal memory refused.2, Adds-gathered held held t0 t1 (refusal_said c.in-Err.refusal).text refl added.0, added.1))
+pub returns-then-is_replay-clause-said : goal.returns-then-is_replay-clause-said
+returns-then-is_replay-clause-said g c =
+    let words = c.args.words.now in
+    let are = c.is_replay.ensures.0 c.if-is_replay.true in
+    let faults = g.F.Shelf.faults c.args.files.now in
+    let shelf = shelf_alone words faults g.F.Shelf.counts_with (g.F.Shelf.file c.args.files.now) None are in
+    IfOk-weaker c.replay.result _ _
+    (λ status s. (None, s.0, Some s.1, said (Some s.1) (Answers s.2 s.3), shelf, s.4, script_tool words None s.0 s.1 s.2 s.3 are s.5, s.6, s.7))
+    c.replay.ensures.said
 
-pub returns-in-Err-clause-no_memory : goal.returns-in-Err-clause-no_memory
-returns-in-Err-clause-no_memory g c =
+pub returns-then-is_replay-clause-untouched : goal.returns-then-is_replay-clause-untouched
+returns-then-is_replay-clause-untouched g c =
+    IfOk-weaker c.replay.result _ _ (λ status s early. absurd (script_not_early (Some s.1) s.3 status early s.7)) c.replay.ensures.said
+
+pub returns-then-is_replay-clause-no_memory : goal.returns-then-is_replay-clause-no_memory
+returns-then-is_replay-clause-no_memory g c =
     λ (e : _).
-    let refused = c.in-Err.ensures.refused in
-    let tape = g.S.Source.told c.args.input.now in
-    let alone = untouched tape (g.S.Source.ends c.args.input.now) (g.S.Source.faults c.args.input.now) in
-    let held = g.K.Sink.held c.args.out.now in
-    let t0 = c.args.gathered.now.items in
-    let t1 = c.say.new.gathered.items in
-    let same = IfErr-at_err (λ cut. (cut ≡ NoMemory) × (t1 ≡ t0)) e c.say.ensures.unchanged in
-    (refused.0, [], None, [], refused.1, alone, inl refl, Adds-nothing held held t0 t1 refl same.1)
+    let words = c.args.words.now in
+    let are = c.is_replay.ensures.0 c.if-is_replay.true in
+    let faults = g.F.Shelf.faults c.args.files.now in
+    let shelf = shelf_alone words faults g.F.Shelf.counts_with (g.F.Shelf.file c.args.files.now) None are in
+    let s = c.replay.ensures.no_memory e in
+    (None, s.0, s.1, s.2, shelf, s.3, front_of_script words None s.0 s.1 s.2 are s.4, s.5)
 
-pub returns-in_err-capture-clause-no_memory : goal.returns-in_err-capture-clause-no_memory
-returns-in_err-capture-clause-no_memory g c =
+pub returns-then-is_replay-clause-cut : goal.returns-then-is_replay-clause-cut
+returns-then-is_replay-clause-cut g c =
     λ (e : _).
-    let ready = c.in-Ok.ensures.ready in
-    let taken = c.in_err-capture.ensures.no_memory in
-    let held = g.K.Sink.held c.args.out.now in
-    let t0 = c.args.gathered.now.items in
-    (Some ready.2, taken.0, taken.1, [], ready.4, taken.2, inl refl, Adds-nothing held held t0 t0 refl refl)
-
-pub put_values-requires-clause-can : goal.put_values-requires-clause-can
-put_values-requires-clause-can g c =
-    let ready = c.in-Ok.ensures.ready in
-    form_reads ready.2 c.in-Ok.ready.description c.in-Ok.ready.def ready.1 ready.5 ready.6
-
--- the bytes that were decoded are those that count
-decoded : (n : ℕ) (items now : List ℕ) (len : ℕ) → now ≡ items → length now ≡ len → n ≡ min len 16777216 → take n now ≡ take 16777216 items
-decoded n items now len value long e =
-    ap (λ k. take k now) (e ∙ ap (λ k. min k 16777216) (sym long)) ∙ counted 16777216 now ∙ ap (λ xs. take 16777216 xs) value
-
-pub returns-in_err-rest-clause-no_memory : goal.returns-in_err-rest-clause-no_memory
-returns-in_err-rest-clause-no_memory g c =
-    let p = err_from_is_err_and c.from_residual-in_err-rest.result c.from_residual-in_err-rest.ensures.1 in
-    let ready = c.in-Ok.ensures.ready in
-    let d = c.in-Ok.ready.description in
-    let def = c.in-Ok.ready.def in
-    let taken = c.in_ok-capture.capture.bytes.items in
-    let now = c.deref.result.now in
-    let n = c.min-counted.result in
-    let same = decoded n taken now (vec_len c.in_ok-capture.capture.bytes) c.deref.ensures.value c.deref.ensures.len (c.min-counted.ensures ∙ ap (λ k. min k 16777216) c.len.ensures) in
-    let cap = c.in_ok-capture.ensures.taken in
-    λ (e : _).
-    let cut = c.in_err-rest.ensures.no_memory (cc) in
-    let comes = comes_to_values c.args.words.now ready.0 ready.1 ready.2 taken (take n now) d def (cut.0 ++ cut.1) cut.2 ready.3 ready.5 ready.6 same cut.3 in
-    (Some ready.2, taken, Some c.in_ok-capture.capture.how, listings d def cut.0, ready.4, cap, front_of_values c.args.words.now (Some ready.2) taken (Some c.in_ok-capture.capture.how) d def cut.0 cut.1 cut.2 comes, cut.4)
-
-pub returns-in_err-rest-clause-cut : goal.returns-in_err-rest-clause-cut
-returns-in_err-rest-clause-cut g c =
-    let p = err_from_is_err_and c.from_residual-in_err-rest.result c.from_residual-in_err-rest.ensures.1 in
-    let ready = c.in-Ok.ensures.ready in
-    let d = c.in-Ok.ready.description in
-    let def = c.in-Ok.ready.def in
-    let taken = c.in_ok-capture.capture.bytes.items in
-    let now = c.deref.result.now in
-    let n = c.min-counted.result in
-    let same = decoded n taken now (vec_len c.in_ok-capture.capture.bytes) c.deref.ensures.value c.deref.ensures.len (c.min-counted.ensures ∙ ap (λ k. min k 16777216) c.len.ensures) in
-    let cap = c.in_ok-capture.ensures.taken in
-    λ (e : _).
-    let cut = c.in_err-rest.ensures.cut (cc) in
-    let comes = comes_to_values c.args.words.now ready.0 ready.1 ready.2 taken (take n now) d def (cut.0 ++ cut.1) cut.2 ready.3 ready.5 ready.6 same cut.3 in
-    (Some ready.2, taken, Some c.in_ok-capture.capture.how, listings d def cut.0, ready.4, cap, front_of_values c.args.words.now (Some ready.2) taken (Some c.in_ok-capture.capture.how) d def cut.0 cut.1 cut.2 comes, cut.4)
-
-pub returns-in_err-status-clause-no_memory : goal.returns-in_err-status-clause-no_memory
-returns-in_err-status-clause-no_memory g c =
-    let ready = c.in-Ok.ensures.ready in
-    let d = c.in-Ok.ready.description in
-    let def = c.in-Ok.ready.def in
-    let taken = c.in_ok-capture.capture.bytes.items in
-    let now = c.deref.result.now in
-    let n = c.min-counted.result in
-    let same = decoded n taken now (vec_len c.in_ok-capture.capture.bytes) c.deref.ensures.value c.deref.ensures.len (c.min-counted.ensures ∙ ap (λ k. min k 16777216) c.len.ensures) in
-    let cap = c.in_ok-capture.ensures.taken in
-    let values = c.in_ok-rest.ensures.values in
-    let how = Some c.in_ok-capture.capture.how in
-    let ending = ending_of c.in_ok-rest.rest in
-    let comes = comes_to_values c.args.words.now ready.0 ready.1 ready.2 taken (take n now) d def values.0 ending ready.3 ready.5 ready.6 same values.1 in
-    let h0 = g.K.Sink.held c.args.out.now in
-    let h1 = g.K.Sink.held c.put_values.new.out in
-    let added = Adds-same h0 h1 h1 c.args.gathered.now.items c.put_values.new.gathered.items c.close.new.gathered.items (listings d def values.0) values.2 refl c.in_err-status.ensures.unchanged in
-    λ (e : _).
-    (Some ready.2, taken, how, listings d def values.0, ready.4, cap, front_before_last c.args.words.now (Some ready.2) taken how d def values.0 ending comes, added)
-
-pub returns-clause-said : goal.returns-clause-said
-returns-clause-said g c =
-    let ready = c.in-Ok.ensures.ready in
-    let d = c.in-Ok.ready.description in
-    let def = c.in-Ok.ready.def in
-    let taken = c.in_ok-capture.capture.bytes.items in
-    let now = c.deref.result.now in
-    let n = c.min-counted.result in
-    let same = decoded n taken now (vec_len c.in_ok-capture.capture.bytes) c.deref.ensures.value c.deref.ensures.len (c.min-counted.ensures ∙ ap (λ k. min k 16777216) c.len.ensures) in
-    let cap = c.in_ok-capture.ensures.taken in
-    let values = c.in_ok-rest.ensures.values in
-    let how = c.in_ok-capture.capture.how in
-    let ending = ending_of c.in_ok-rest.rest in
-    let comes = comes_to_values c.args.words.now ready.0 ready.1 ready.2 taken (take n now) d def values.0 ending ready.3 ready.5 ready.6 same values.1 in
-    let h0 = g.K.Sink.held c.args.out.now in
-    let h1 = g.K.Sink.held c.put_values.new.out in
-    let t1 = c.put_values.new.gathered.items in
-    let t2 = c.close.new.gathered.items in
-    let closed = c.in_ok-status.ensures.closed in
-    let last = (last_said (Some how) ending).text in
-    let added = Adds-more h0 h1 h1 c.args.gathered.now.items t1 t2 (listings d def values.0) last values.2 (Adds-gathered h1 h1 t1 t2 last refl closed.0) in
-    (Some ready.2, taken, Some how, said (Some how) (Values d def values.0 ending), ready.4, cap, values_tool c.args.words.now (Some ready.2) taken how d def values.0 ending comes, added, closed.1)
-
-pub returns-clause-untouched : goal.returns-clause-untouched
-returns-clause-untouched g c =
-    λ (early : _). absurd (not_early (Some c.in_ok-capture.capture.how) (ending_of c.in_ok-rest.rest) c.in_ok-status.status early c.in_ok-status.ensures.closed.1)
+    let words = c.args.words.now in
+    let are = c.is_replay.ensures.0 c.if-is_replay.true in
+    let faults = g.F.Shelf.faults c.args.files.now in
+    let shelf = shelf_alone words faults g.F.Shelf.counts_with (g.F.Shelf.file c.args.files.now) None are in
+    let s = c.replay.ensures.cut e in
+    (None, s.0, s.1, s.2, shelf, s.3, front_of_script words None s.0 s.1 s.2 are s.4, s.5)

@@ -1,0 +1,25 @@
+ghost use Rattle.std.specs.Prelude.{◌≡◌, ◌<◌, ◌==◌, [], ◌∷◌, length, MatchOption};
+ghost use Rattle.std.specs.List.{position};
+ghost use Rattle.plchost.specs.Lines.{lines_in};
+
+/// Where the first line feed is.
+fn find_feed(bytes: &[u8]) -> Option<usize>
+    ensures { result ≡ position (λ b. b == 10) bytes.now }
+{
+    bytes.iter().position(|byte| *byte == b'\n')
+}
+
+/// The next line of some bytes, without its line feed, and what follows it. What stands behind the last line feed is a
+/// line where the bytes end there and it isn't empty.
+pub fn next_line(ended: bool, bytes: &[u8]) -> Option<(&[u8], &[u8])>
+    ensures line { MatchOption result
+        (lines_in ended bytes.now ≡ [])
+        (λ found. lines_in ended bytes.now ≡ found.0.now ∷ lines_in ended found.1.now) }
+    ensures shorter { MatchOption result (Unit {0}) (λ found. length found.1.now < length bytes.now) }
+{
+    match find_feed(bytes) {
+        Some(at) => Some((&bytes[..at], &bytes[at + 1..])),
+        None if ended && !bytes.is_empty() => Some((bytes, &[])),
+        None => None,
+    }
+}

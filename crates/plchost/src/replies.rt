@@ -1,0 +1,85 @@
+ghost use Rattle.std.specs.Prelude.{◌≡◌, ◌+◌, ◌⊎◌, ℕ, List, ◌++◌, true, false, Ok, Err, IfOk};
+ghost use Rattle.link_io.specs.Counts.{Rose};
+ghost use Rattle.script_lines.specs.Scripts.{IsLine};
+ghost use Rattle.script_lines.specs.declared.commands.Command.{Command};
+ghost use Rattle.script_replay.specs.Replays.{Script, after_command, reply_text};
+ghost use Rattle.script_replay.specs.declared.replays.ScriptEnd.{ScriptEnd};
+ghost use Rattle.plchost.specs.Lines.{lines_in};
+ghost use Rattle.plchost.specs.Runs.{Adds, PutsFront};
+
+use crate::faults::Cut;
+use crate::lines::next_line;
+use crate::printing::put_large;
+use link_io::Sink;
+use script_lines::LineFault;
+use script_replay::{Replay, ScriptEnd};
+use std::alloc::Global;
+
+/// Takes the next line of a script, adds its answer to what is gathered, and puts that out once it is large. Tells whether
+/// the line is one; a line that isn't changes nothing.
+fn put_answer<K: Sink>(
+    replay: &mut Replay,
+    out: &mut K,
+    gathered: &mut Vec<u8>,
+    line: &[u8],
+) -> Result<bool, Cut>
+    ensures answered { result ≡ Ok true → (command : Command) × IsLine replay.old.next line.now command
+        × Adds (K.held out.old) (K.held out.new) gathered.old.items gathered.new.items (reply_text replay.old.at command)
+        × (replay.new ≡ record { next = replay.old.next + 1; at = after_command replay.old.at command }) }
+    ensures refused { result ≡ Ok false → ((command : Command) → IsLine replay.old.next line.now command → ⊥)
+        × (K.held out.new ≡ K.held out.old) × (gathered.new.items ≡ gathered.old.items) × (replay.new ≡ replay.old) }
+    ensures no_fault { result ≡ Err Cut.WriteFault ⊎ (K.faults out.new ≡ K.faults out.old) }
+    ensures no_memory { result ≡ Err Cut.NoMemory →
+        (K.held out.new ≡ K.held out.old) × (gathered.new.items ≡ gathered.old.items) }
+    ensures cut { result ≡ Err Cut.WriteFault → (command : Command) × IsLine replay.old.next line.now command
+        × PutsFront (K.held out.old) (K.held out.new) (gathered.old.items ++ reply_text replay.old.at command) }
+    ensures fault { result ≡ Err Cut.WriteFault → Rose (K.faults out.old) (K.faults out.new) }
+{
+    let before = gathered.len();
+    match replay.take_line(line, gathered) {
+        Ok(()) => {
+            put_large(out, gathered)?;
+            Ok(true)
+        }
+        Err(LineFault::Refused) => Ok(false),
+        Err(LineFault::NoMemory) => {
+            gathered.truncate(before);
+            Err(Cut::NoMemory)
+        }
+    }
+}
+
+/// Puts out the answers of a script's lines, up to the first that is refused, and tells how they end. What isn't put out
+/// stays gathered.
+pub fn put_answers<K: Sink>(
+    alloc: Global,
+    out: &mut K,
+    gathered: &mut Vec<u8>,
+    ended: bool,
+    bytes: &[u8],
+) -> Result<ScriptEnd, Cut>
+    ensures answers { IfOk result (λ end. (text : List ℕ) × Script (lines_in ended bytes.now) text end
+        × Adds (K.held out.old) (K.held out.new) gathered.old.items gathered.new.items text) }
+    ensures no_fault { result ≡ Err Cut.WriteFault ⊎ (K.faults out.new ≡ K.faults out.old) }
+    ensures no_memory { result ≡ Err Cut.NoMemory → (front rest : List ℕ) × (end : ScriptEnd)
+        × Script (lines_in ended bytes.now) (front ++ rest) end
+        × Adds (K.held out.old) (K.held out.new) gathered.old.items gathered.new.items front }
+    ensures cut { result ≡ Err Cut.WriteFault → (front rest : List ℕ) × (end : ScriptEnd)
+        × Script (lines_in ended bytes.now) (front ++ rest) end
+        × PutsFront (K.held out.old) (K.held out.new) (gathered.old.items ++ front) }
+    ensures fault { result ≡ Err Cut.WriteFault → Rose (K.faults out.old) (K.faults out.new) }
+{
+    let mut replay = Replay::new(alloc);
+    let mut rest = bytes;
+    while let Some((line, more)) = next_line(ended, rest) {
+        if !put_answer(&mut replay, out, gathered, line)? {
+            let line = replay.next();
+            return Ok(ScriptEnd::Refused { line });
+        }
+        rest = more;
+    }
+    Ok(ScriptEnd::Answered {
+        next: replay.next(),
+        entries: replay.entries(),
+    })
+}

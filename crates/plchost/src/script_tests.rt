@@ -1,0 +1,232 @@
+ghost use Rattle.std.specs.Prelude.{◌<◌};
+
+use crate::tests::{Failing, NONE_FAILS, Ran, run, string_list};
+use crate::tool::tool_main;
+use link_io::{MemShelf, MemSink, MemSource};
+use std::alloc::{AllocError, Global};
+use std::test::Fail;
+
+/// Runs a script in pieces of at most `piece` bytes.
+fn replay(
+    alloc: Global,
+    script: &[u8],
+    failing: Failing<'_>,
+    piece: usize,
+) -> Result<Ran, AllocError>
+    requires { 0 < piece }
+{
+    run(alloc, &["replay"], b"", script, failing, piece)
+}
+
+/// A script over so many references, with these lines behind its first two.
+fn opened(alloc: Global, references: &[u8], lines: &[u8]) -> Result<Vec<u8>, AllocError> {
+    let mut script = Vec::from_slice(alloc, b"table ")?;
+    script.extend_from_slice(references)?;
+    script.extend_from_slice(b" 8 1 64 60000 60000\nask 1 0\n")?;
+    script.extend_from_slice(lines)?;
+    Ok(script)
+}
+
+#[test]
+fn scripts_are_answered_by_the_table(rt: HostRuntime) -> Result<(), Fail> {
+    let cases: [(&[u8], &[u8], &[u8]); 9] = [
+        (
+            b"2",
+            b"submit 1 1 0 1000 AA\nsend\ncancel 1 1\nsubmit 1 1 0 1000 AA\nsend\nframe 00050001BB\ncollect 1 1\nsubmit 1 1 0 1000 AA\n",
+            b"started 1 1\nsent 1 00050001aa\ncancelled\nstarted 2 2\nsent 2 00050002aa\nlate 1\ncancelled\nstarted 3 1\nentries 9\n",
+        ),
+        (
+            b"2",
+            b"submit 1 1 0 1000 AA\nsend\nframe 00050001BB\ncancel 1 1\ncollect 1 1\n",
+            b"started 1 1\nsent 1 00050001aa\nended 1 done\nended done\ndone 187\nentries 5\n",
+        ),
+        (
+            b"1",
+            b"submit 1 1 0 1000 AA\nsend\ncancel 1 1\nsubmit 1 1 0 1000 AA\nframe 00050001BB\nsubmit 1 1 0 1000 AA\n",
+            b"started 1 1\nsent 1 00050001aa\ncancelled\nno reference\nlate 1\nstarted 2 1\nentries 6\n",
+        ),
+        (
+            b"1",
+            b"submit 1 1 0 1000 AA\ncancel 1 1\nsubmit 1 1 0 1000 AA\nsend\n",
+            b"started 1 1\ncancelled\nstarted 2 1\nsent 2 00050001aa\nentries 5\n",
+        ),
+        (
+            b"2",
+            b"submit 1 1 0 1000 AA\nframe 00050001BB\nsend\nframe 00050001BB",
+            b"started 1 1\nstray 1\nsent 1 00050001aa\nended 1 done\nentries 5\n",
+        ),
+        (
+            b"2",
+            b"submit 1 1 0 1000 AA\ncollect 1 1\nsend\nframe 00040001\ncollect 1 1\nsend\n",
+            b"started 1 1\npending\nsent 1 00050001aa\nended 1 mismatch 1 0\nmismatch 1 0\nnothing\nentries 5\n",
+        ),
+        (
+            b"0002",
+            b"submit 1 1 0 1000 AA\nsend\nframe 00060001Ff07\ncollect 1 1\ncollect 1 1",
+            b"started 1 1\nsent 1 00050001aa\nended 1 remote 7\nremote 7\nno request\nentries 5\n",
+        ),
+        (
+            b"65535",
+            b"submit 1 1 0 1000 AA\nsubmit 1 2 0 1000 AA\nsend\nframe 00070001010a00\ncollect 1 1\n",
+            b"started 1 1\nno lease\nsent 1 00050001aa\nended 1 done\ndone 1,10,0\nentries 5\n",
+        ),
+        (
+            b"2",
+            b"submit 1 2 0 1000 AA\ncollect 1 1\nsend\n",
+            b"no lease\nno request\nnothing\nentries 1\n",
+        ),
+    ];
+    for (references, lines, answers) in cases {
+        let script = opened(rt.alloc(), references, lines)?;
+        let mut want = Vec::from_slice(rt.alloc(), b"granted 1\n")?;
+        want.extend_from_slice(answers)?;
+        for piece in 1usize..4 {
+            let ran = replay(rt.alloc(), &script, NONE_FAILS, piece)?;
+            assert_eq!(rt; ran.text.as_slice(), want.as_slice());
+            assert_eq!(rt; ran.status, 0);
+        }
+    }
+    Ok(())
+}
+
+#[test]
+fn the_first_line_outside_the_form_is_refused(rt: HostRuntime) -> Result<(), Fail> {
+    let cases: [(&[u8], &[u8]); 9] = [
+        (b"", b"line refused 1\n"),
+        (b"\n", b"line refused 1\n"),
+        (b"ask 1 0\n", b"line refused 1\n"),
+        (b"table 2 8 1 64 60000 60000\n", b"line refused 2\n"),
+        (
+            b"table 2 8 1 64 60000 60000\nasks 1 0\n",
+            b"line refused 2\n",
+        ),
+        (
+            b"table 2 8 1 64 60000 60000\nask 1 0\n\n",
+            b"granted 1\nline refused 3\n",
+        ),
+        (
+            b"table 2 8 1 64 60000 60000\nask 1 0\nsend\nsen",
+            b"granted 1\nnothing\nline refused 4\n",
+        ),
+        (
+            b"table 2 8 1 64 60000 60000\nask 1 0\nframe 0006000101\nsend\n",
+            b"granted 1\nline refused 3\n",
+        ),
+        (
+            b"table 2 8 1 64 60000 60000\nask 1 0\nsubmit 1 1 0 1000 A\nsend\n",
+            b"granted 1\nline refused 3\n",
+        ),
+    ];
+    for (script, want) in cases {
+        let ran = replay(rt.alloc(), script, NONE_FAILS, 100)?;
+        assert_eq!(rt; ran.text.as_slice(), want);
+        assert_eq!(rt; ran.status, 10);
+    }
+    Ok(())
+}
+
+#[test]
+fn a_script_has_at_most_63_lines(rt: HostRuntime) -> Result<(), Fail> {
+    let mut script = Vec::from_slice(rt.alloc(), b"table 2 8 1 64 60000 60000\nask 1 0\n")?;
+    let mut want = Vec::from_slice(rt.alloc(), b"granted 1\n")?;
+    for _ in 0..61 {
+        script.extend_from_slice(b"send\n")?;
+        want.extend_from_slice(b"nothing\n")?;
+    }
+    let ran = replay(rt.alloc(), &script, NONE_FAILS, 1000)?;
+    let answers = want.len();
+    want.extend_from_slice(b"entries 1\n")?;
+    assert_eq!(rt; ran.text.as_slice(), want.as_slice());
+    assert_eq!(rt; ran.status, 0);
+    script.extend_from_slice(b"send\n")?;
+    let ran = replay(rt.alloc(), &script, NONE_FAILS, 1000)?;
+    want.truncate(answers);
+    want.extend_from_slice(b"line refused 64\n")?;
+    assert_eq!(rt; ran.text.as_slice(), want.as_slice());
+    assert_eq!(rt; ran.status, 10);
+    Ok(())
+}
+
+#[test]
+fn a_payload_that_is_too_long_is_not_admitted(rt: HostRuntime) -> Result<(), Fail> {
+    for (bytes, answer) in [
+        (4092, "started 1 1\nentries 2\n"),
+        (4093, "not admitted\nentries 1\n"),
+    ] {
+        let mut script = Vec::from_slice(
+            rt.alloc(),
+            b"table 2 8 1 64 60000 60000\nask 1 0\nsubmit 1 1 0 1000 ",
+        )?;
+        for _ in 0..bytes {
+            script.extend_from_slice(b"0a")?;
+        }
+        let ran = replay(rt.alloc(), &script, NONE_FAILS, 1000)?;
+        let mut want = Vec::from_slice(rt.alloc(), b"granted 1\n")?;
+        want.extend_from_slice(answer.as_bytes())?;
+        assert_eq!(rt; ran.text.as_slice(), want.as_slice());
+        assert_eq!(rt; ran.status, 0);
+    }
+    Ok(())
+}
+
+/// A script that is read, and whose answers are put out, a byte at a time, where one call fails.
+fn replay_failing(alloc: Global, failing: Failing<'_>) -> Result<Ran, AllocError> {
+    let script = b"table 2 8 1 64 60000 60000\nask 1 0\nsend";
+    replay(alloc, script, failing, 1)
+}
+
+#[test]
+fn a_fault_at_each_call_of_a_script_has_its_status(rt: HostRuntime) -> Result<(), Fail> {
+    // 39 bytes and the end, each a read; the second line ends at byte 35
+    for at in 1u64..=40 {
+        let ran = replay_failing(
+            rt.alloc(),
+            Failing {
+                reads: &[at],
+                ..NONE_FAILS
+            },
+        )?;
+        let want: &[u8] = if at <= 35 {
+            b"read fault\n"
+        } else {
+            b"granted 1\nread fault\n"
+        };
+        assert_eq!(rt; ran.text.as_slice(), want, "read {at}");
+        assert_eq!(rt; ran.status, 4);
+    }
+    let whole: &[u8] = b"granted 1\nnothing\nentries 1\n";
+    // 28 bytes and the flush
+    for at in 1u64..=29 {
+        let ran = replay_failing(
+            rt.alloc(),
+            Failing {
+                writes: &[at],
+                ..NONE_FAILS
+            },
+        )?;
+        let put = at as usize - 1;
+        assert!(rt; put <= 28);
+        assert_eq!(rt; ran.text.as_slice(), &whole[..put], "write {at}");
+        assert_eq!(rt; ran.status, 5);
+    }
+    let ran = replay_failing(rt.alloc(), NONE_FAILS)?;
+    assert_eq!(rt; ran.text.as_slice(), whole);
+    assert_eq!(rt; ran.status, 0);
+    Ok(())
+}
+
+#[test]
+fn a_script_without_room_for_its_answers_is_a_write_fault(rt: HostRuntime) -> Result<(), Fail> {
+    let words = string_list(rt.alloc(), &["replay"])?;
+    for room in 0usize..20 {
+        let mut files = MemShelf::new(Vec::new(rt.alloc()), Vec::new(rt.alloc()));
+        let script = Vec::from_slice(rt.alloc(), b"table 2 8 1 64 60000 60000\nask 1 0\n")?;
+        let mut source = MemSource::new(script, Vec::new(rt.alloc()));
+        let mut out = MemSink::with_room(rt.alloc(), room, Vec::new(rt.alloc()));
+        let status = tool_main(rt.alloc(), &words, &mut files, &mut source, &mut out);
+        assert_eq!(rt; status, 5, "room {room}");
+        let want: &[u8] = b"granted 1\nentries 1\n";
+        assert_eq!(rt; out.bytes(), &want[..room]);
+    }
+    Ok(())
+}
