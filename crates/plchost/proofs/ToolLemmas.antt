@@ -60,20 +60,22 @@ comes_to_values words name kind text taken bytes how d def readings ending decod
     (name, kind, text, decode, refl, form, named, subst (λ (bs : List ℕ). Stream d def [] bs readings ending) e stream)
 
 -- the listings of the first values are a front
-pub front_of_values : (words : List (List ℕ)) (file : Option (List ℕ)) (taken : List ℕ) (how : Option How) (d : Description) (def : ℕ) (front back : List Reading) (ending : Ending) → ComesTo words file taken how (Values d def (front ++ back) ending) → IsFront words file taken how (listings d def front)
+pub front_of_values : (words : List (List ℕ)) (file : Option (List ℕ)) (taken : List ℕ) (how : How) (d : Description) (def : ℕ) (front back : List Reading) (ending : Ending) → ComesTo words file taken (Some how) (Values d def (front ++ back) ending) → IsFront words file taken (Some how) (listings d def front)
 front_of_values words file taken how d def front back ending comes =
     let all = flat_map-append (λ (r : Reading). listing (fields_at d def) r.node) front back in
+    let last = (last_said (Some how) ending).text in
     inr (
       Values d def (front ++ back) ending,
-      listings d def back ++ (last_said how ending).text,
+      listings d def back ++ last,
       comes,
-      sym (append_assoc (listings d def front) (listings d def back) (last_said how ending).text) ∙ ap (λ (xs : List ℕ). xs ++ (last_said how ending).text) (sym all),
+      tt,
+      sym (append_assoc (listings d def front) (listings d def back) last) ∙ ap (λ (xs : List ℕ). xs ++ last) (sym all),
     )
 
 -- the listings of all values are a front
-pub front_before_last : (words : List (List ℕ)) (file : Option (List ℕ)) (taken : List ℕ) (how : Option How) (d : Description) (def : ℕ) (readings : List Reading) (ending : Ending) → ComesTo words file taken how (Values d def readings ending) → IsFront words file taken how (listings d def readings)
+pub front_before_last : (words : List (List ℕ)) (file : Option (List ℕ)) (taken : List ℕ) (how : How) (d : Description) (def : ℕ) (readings : List Reading) (ending : Ending) → ComesTo words file taken (Some how) (Values d def readings ending) → IsFront words file taken (Some how) (listings d def readings)
 front_before_last words file taken how d def readings ending comes =
-    inr (Values d def readings ending, (last_said how ending).text, comes, refl)
+    inr (Values d def readings ending, (last_said (Some how) ending).text, comes, tt, refl)
 
 -- the values, read to their end
 pub values_tool : (words : List (List ℕ)) (file : Option (List ℕ)) (taken : List ℕ) (how : How) (d : Description) (def : ℕ) (readings : List Reading) (ending : Ending) → ComesTo words file taken (Some how) (Values d def readings ending) → Tool words file taken (Some how) (said (Some how) (Values d def readings ending))
@@ -82,7 +84,7 @@ values_tool words file taken how d def readings ending comes = (Values d def rea
 -- the text of a run is a front of itself
 pub front_of_tool : (words : List (List ℕ)) (file : Option (List ℕ)) (taken : List ℕ) (how : Option How) (told : Said) → Tool words file taken how told → IsFront words file taken how told.text
 front_of_tool words file taken how told tool =
-    inr (tool.0, [], tool.1, append-nil told.text ∙ ap (λ (s : Said). s.text) tool.3)
+    inr (tool.0, [], tool.1, tool.2, append-nil told.text ∙ ap (λ (s : Said). s.text) tool.3)
 
 -- ---- scripts
 
@@ -99,11 +101,8 @@ front_of_script words file taken how front replay is =
     elim is [
       | inl none ↦ inl none
       | inr s ↦
-          let last = (script_last how s.2).text in
-          inr (
-            Answers s.0 s.2,
-            s.1 ++ last,
-            (replay, s.3),
-            sym (append_assoc front s.1 last) ∙ ap (λ (xs : List ℕ). xs ++ last) s.4,
-          )
+          let last = (script_last (Some s.0) s.3).text in
+          let same = sym (append_assoc front s.2 last) ∙ ap (λ (xs : List ℕ). xs ++ last) s.6 in
+          let all : IsFront words file taken (Some s.0) front = inr (Answers s.1 s.3, s.2 ++ last, (replay, s.5), tt, same) in
+          subst (λ (left : Option How). IsFront words file taken left front) (sym s.4) all
     ]

@@ -58,8 +58,8 @@ IsReady words faults faults' counts_with told d def =
 abbrev pub StopsEarly : ℕ → Type 0
 StopsEarly status = (status ≡ 1) ⊎ ((status ≡ 2) ⊎ ((status ≡ 3) ⊎ (status ≡ 12)))
 
--- a front of the answers of an input's lines
+-- a front of the answers of an input's lines, where the input was left in one of the three ways
 abbrev pub IsScriptFront : Option How → (taken front : List ℕ) → Type 0
 IsScriptFront how taken front =
     (front ≡ [])
-    ⊎ ((text rest : List ℕ) × (end : ScriptEnd) × Script (lines_of how (take input_limit taken)) text end × (front ++ rest ≡ text))
+    ⊎ ((left : How) × (text rest : List ℕ) × (end : ScriptEnd) × (how ≡ Some left) × Script (lines_of (Some left) (take input_limit taken)) text end × (front ++ rest ≡ text))

@@ -152,7 +152,8 @@ abbrev pub Tool : (words : List (List ℕ)) → (file : Option (List ℕ)) → (
 Tool words file taken how told =
     (result : Result) × ComesTo words file taken how result × IsDecided how result × (told ≡ said how result)
 
--- a front of the text, also of a run that was cut off before it was decided
+-- A front of the text. Of values and lines there is one only where the input ended, failed or had too many bytes.
 abbrev pub IsFront : (words : List (List ℕ)) → (file : Option (List ℕ)) → (taken : List ℕ) → Option How → (front : List ℕ) → Type 0
 IsFront words file taken how front =
-    (front ≡ []) ⊎ ((result : Result) × (rest : List ℕ) × ComesTo words file taken how result × (front ++ rest ≡ (said how result).text))
+    (front ≡ [])
+    ⊎ ((result : Result) × (rest : List ℕ) × ComesTo words file taken how result × IsDecided how result × (front ++ rest ≡ (said how result).text))

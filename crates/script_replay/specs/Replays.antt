@@ -52,7 +52,7 @@ submit_text st caller lease now timeout payload =
     then submitted_text (accepted_of (answer_of (submit raw_meaning (table_in raw st) (record { actor = caller; lease = lease; ask = Raw payload; timeout = timeout; moment = now }))))
     else codes "not admitted"
 
--- what a call is answered
+-- what a call is answered; the calls are those of the table's step
 abbrev pub answer_text : State RawWire → Call → List ℕ
 answer_text st (AskLease caller now) = asked_text (answer_of (ask_lease st.key.settings (table_in raw st) caller now))
 answer_text st (Submit caller lease now timeout payload) = submit_text st caller lease now timeout payload
@@ -77,7 +77,7 @@ after_call st (Collect caller id) = stepped st (Collect caller id)
 
 -- ---- a script
 
--- The table line makes the connection, and has no answer. Before it there is none.
+-- The table line makes the connection, and has no answer. Before it there is none, and no other line stands there.
 abbrev pub after_command : Option (State RawWire) → Command → Option (State RawWire)
 after_command at (TableLine s) = Some (opened s)
 after_command (Some st) (Calls call) = Some (after_call st call)

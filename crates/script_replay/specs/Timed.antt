@@ -1,4 +1,4 @@
--- What a call on the table needs of its times.
+-- What making a table, and handing in a request, need of their numbers.
 use Rattle.std.specs.Prelude.{◌≤◌}
 use Rattle.script_lines.specs.declared.commands.Call.{Call}
 use Rattle.script_lines.specs.declared.commands.Call.TheVariants.{AskLease, Submit, TakeSend, Frame, Cancel, Collect}
@@ -15,7 +15,7 @@ IsTimed (Frame bytes) = Unit {0}
 IsTimed (Cancel caller id) = Unit {0}
 IsTimed (Collect caller id) = Unit {0}
 
--- a table's settings are in their ranges
-abbrev pub IsAble : Command → Type 0
-IsAble (Table s) = IsSettings s
-IsAble (Calls call) = IsTimed call
+-- the ranges that a connection and its calls need
+abbrev pub IsInRanges : Command → Type 0
+IsInRanges (Table s) = IsSettings s
+IsInRanges (Calls call) = IsTimed call

@@ -1,8 +1,10 @@
-ghost use Rattle.std.specs.Prelude.{◌≡◌, ◌+◌, ◌++◌, take, length, None, Err, OnOk, MatchResult};
+ghost use Rattle.std.specs.Prelude.{◌≡◌, ◌+◌, ◌++◌, take, length, None, Err, OnOk, MatchOption, MatchResult};
+ghost use Rattle.conn_core.specs.Journals.{Legal};
+ghost use Rattle.conn_core.specs.States.{connection_of};
 ghost use Rattle.script_lines.specs.Scripts.{IsLine};
 ghost use Rattle.script_lines.specs.declared.commands.Command.{Command};
-ghost use Rattle.script_replay.specs.Replays.{after_command, entries, reply_text};
-ghost use Rattle.script_replay.specs.Timed.{IsAble};
+ghost use Rattle.script_replay.specs.Replays.{after_command, entries, raw, reply_text};
+ghost use Rattle.script_replay.specs.Timed.{IsInRanges};
 
 use crate::calls::answer_call;
 use conn_core::ConnState;
@@ -58,9 +60,10 @@ impl Replay {
         self.next
     }
 
-    /// How many entries the connection's journal has, 0 where there is no connection yet.
+    /// How many entries the connection's journal has, 0 where there is no connection yet. The journal is legal.
     pub fn entries(&self) -> u64
-        ensures { result ≡ entries self.now.at }
+        ensures entries { result ≡ entries self.now.at }
+        ensures legal { MatchOption self.now.at (Unit {0}) (λ state. Legal (connection_of raw state.key) state.journal) }
     {
         match &self.conn {
             Some(conn) => conn.journal().len() as u64,
@@ -68,8 +71,9 @@ impl Replay {
         }
     }
 
-    /// Takes the next line, without its end, and adds its answer to a text. A line that is refused changes nothing;
-    /// want of memory leaves a text that begins as before.
+    /// Takes the next line, without its end, and adds its answer to a text. A line that is refused changes nothing. Want
+    /// of memory leaves a text that begins as before, but the call may have been made all the same: take no further line
+    /// then.
     pub fn take_line(&mut self, line: &[u8], text: &mut Vec<u8>) -> Result<(), LineFault>
         ensures answered { OnOk result ((command : Command) × IsLine self.old.next line.now command
             × (text.new.items ≡ text.old.items ++ reply_text self.old.at command)
@@ -86,7 +90,7 @@ impl Replay {
 
     /// Runs a command, and adds its answer to a text.
     fn run(&mut self, command: Command, text: &mut Vec<u8>) -> Result<(), AllocError>
-        requires { IsAble command }
+        requires { IsInRanges command }
         ensures { MatchResult result
             (λ _. (text.new.items ≡ text.old.items ++ reply_text self.old.at command)
             × (self.new ≡ record { next = self.old.next; at = after_command self.old.at command }))

@@ -61,7 +61,7 @@ returns-in_err-rest-clause-no_memory g c =
     λ (e : _).
     let cut = c.in_err-rest.ensures.no_memory (cc) in
     let comes = comes_to_values c.args.words.now ready.0 ready.1 ready.2 taken (take n now) (Some c.in_ok-capture.capture.how) d def (cut.0 ++ cut.1) cut.2 ready.3 ready.5 ready.6 same cut.3 in
-    (Some ready.2, taken, Some c.in_ok-capture.capture.how, listings d def cut.0, ready.4, cap, front_of_values c.args.words.now (Some ready.2) taken (Some c.in_ok-capture.capture.how) d def cut.0 cut.1 cut.2 comes, cut.4)
+    (Some ready.2, taken, Some c.in_ok-capture.capture.how, listings d def cut.0, ready.4, cap, front_of_values c.args.words.now (Some ready.2) taken c.in_ok-capture.capture.how d def cut.0 cut.1 cut.2 comes, cut.4)
 
 pub returns-in_err-rest-clause-cut : goal.returns-in_err-rest-clause-cut
 returns-in_err-rest-clause-cut g c =
@@ -77,7 +77,7 @@ returns-in_err-rest-clause-cut g c =
     λ (e : _).
     let cut = c.in_err-rest.ensures.cut (cc) in
     let comes = comes_to_values c.args.words.now ready.0 ready.1 ready.2 taken (take n now) (Some c.in_ok-capture.capture.how) d def (cut.0 ++ cut.1) cut.2 ready.3 ready.5 ready.6 same cut.3 in
-    (Some ready.2, taken, Some c.in_ok-capture.capture.how, listings d def cut.0, ready.4, cap, front_of_values c.args.words.now (Some ready.2) taken (Some c.in_ok-capture.capture.how) d def cut.0 cut.1 cut.2 comes, cut.4)
+    (Some ready.2, taken, Some c.in_ok-capture.capture.how, listings d def cut.0, ready.4, cap, front_of_values c.args.words.now (Some ready.2) taken c.in_ok-capture.capture.how d def cut.0 cut.1 cut.2 comes, cut.4)
 
 pub returns-in_err-status-clause-no_memory : goal.returns-in_err-status-clause-no_memory
 returns-in_err-status-clause-no_memory g c =
@@ -97,7 +97,7 @@ returns-in_err-status-clause-no_memory g c =
     let h1 = g.K.Sink.held c.put_values.new.out in
     let added = Adds-same h0 h1 h1 c.args.gathered.now.items c.put_values.new.gathered.items c.close.new.gathered.items (listings d def values.0) values.2 refl c.in_err-status.ensures.unchanged in
     λ (e : _).
-    (Some ready.2, taken, how, listings d def values.0, ready.4, cap, front_before_last c.args.words.now (Some ready.2) taken how d def values.0 ending comes, added)
+    (Some ready.2, taken, how, listings d def values.0, ready.4, cap, front_before_last c.args.words.now (Some ready.2) taken c.in_ok-capture.capture.how d def values.0 ending comes, added)
 
 pub returns-clause-said : goal.returns-clause-said
 returns-clause-said g c =

@@ -18,7 +18,7 @@ returns-in_err-end-clause-no_memory g c =
     λ (e : _).
     let cut = c.in_err-end.ensures.no_memory (cc) in
     let script = script_of how c.has_ended-ended.result (take n now) (take 16777216 taken) (cut.0 ++ cut.1) cut.2 c.has_ended-ended.ensures same cut.3 in
-    (taken, Some how, cut.0, c.in_ok-script.ensures.taken, inr (cut.0 ++ cut.1, cut.1, cut.2, script, refl), cut.4)
+    (taken, Some how, cut.0, c.in_ok-script.ensures.taken, inr (how, cut.0 ++ cut.1, cut.1, cut.2, refl, script, refl), cut.4)
 
 pub returns-in_err-end-clause-cut : goal.returns-in_err-end-clause-cut
 returns-in_err-end-clause-cut g c =
@@ -31,7 +31,7 @@ returns-in_err-end-clause-cut g c =
     λ (e : _).
     let cut = c.in_err-end.ensures.cut (cc) in
     let script = script_of how c.has_ended-ended.result (take n now) (take 16777216 taken) (cut.0 ++ cut.1) cut.2 c.has_ended-ended.ensures same cut.3 in
-    (taken, Some how, cut.0, c.in_ok-script.ensures.taken, inr (cut.0 ++ cut.1, cut.1, cut.2, script, refl), cut.4)
+    (taken, Some how, cut.0, c.in_ok-script.ensures.taken, inr (how, cut.0 ++ cut.1, cut.1, cut.2, refl, script, refl), cut.4)
 
 pub returns-in_err-status-clause-no_memory : goal.returns-in_err-status-clause-no_memory
 returns-in_err-status-clause-no_memory g c =
@@ -46,7 +46,7 @@ returns-in_err-status-clause-no_memory g c =
     let h0 = g.K.Sink.held c.args.out.now in
     let h1 = g.K.Sink.held c.put_answers.new.out in
     let added = Adds-same h0 h1 h1 c.args.gathered.now.items c.put_answers.new.gathered.items c.close_script.new.gathered.items answers.0 answers.2 refl c.in_err-status.ensures.unchanged in
-    λ (e : _). (taken, Some how, answers.0, c.in_ok-script.ensures.taken, inr (answers.0, [], end, script, append-nil answers.0), added)
+    λ (e : _). (taken, Some how, answers.0, c.in_ok-script.ensures.taken, inr (how, answers.0, [], end, refl, script, append-nil answers.0), added)
 
 pub returns-clause-said : goal.returns-clause-said
 returns-clause-said g c =

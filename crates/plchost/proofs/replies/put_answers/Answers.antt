@@ -91,6 +91,6 @@ returns-clause-answers g c =
     let at = c.loop-line.replay.at in
     let script = ends_answered all n at (lines_in c.args.ended c.loop-line.rest.now) inv.0 c.in_default.ensures.line inv.3 in (
       inv.0,
-      subst (λ (end : ScriptEnd). Script all inv.0 end) (ap (λ next. Answered next (entries at)) (sym c.next.ensures) ∙ ap (λ (k : ℕ). Answered c.next.result k) (sym c.entries.ensures)) script,
+      subst (λ (end : ScriptEnd). Script all inv.0 end) (ap (λ next. Answered next (entries at)) (sym c.next.ensures) ∙ ap (λ (k : ℕ). Answered c.next.result k) (sym c.entries.ensures.entries)) script,
       inv.1,
     )
