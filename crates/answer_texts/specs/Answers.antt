@@ -6,22 +6,22 @@ use Rattle.wire_frames.specs.declared.ends.Outcome.{Outcome}
 use Rattle.wire_frames.specs.declared.ends.Reason.{Reason}
 use Rattle.conn_core.specs.declared.answers.Accepted.{Accepted}
 use Rattle.conn_core.specs.declared.answers.AskRefusal.{AskRefusal}
-use Rattle.conn_core.specs.declared.answers.AskRefusal.TheVariants as asks
+use Rattle.conn_core.specs.declared.answers.AskRefusal.TheVariants as ask_refusals
 use Rattle.conn_core.specs.declared.answers.CancelRefusal.{CancelRefusal}
-use Rattle.conn_core.specs.declared.answers.CancelRefusal.TheVariants as cancels
+use Rattle.conn_core.specs.declared.answers.CancelRefusal.TheVariants as cancel_refusals
 use Rattle.conn_core.specs.declared.answers.FrameAnswer.{FrameAnswer}
-use Rattle.conn_core.specs.declared.answers.FrameAnswer.TheVariants as frames
+use Rattle.conn_core.specs.declared.answers.FrameAnswer.TheVariants as frame_answers
 use Rattle.conn_core.specs.declared.answers.FrameRefusal.{FrameRefusal}
 use Rattle.conn_core.specs.declared.answers.FrameRefusal.TheVariants as frame_refusals
 use Rattle.conn_core.specs.declared.answers.LeaseAnswer.{LeaseAnswer}
-use Rattle.conn_core.specs.declared.answers.LeaseAnswer.TheVariants as leases
+use Rattle.conn_core.specs.declared.answers.LeaseAnswer.TheVariants as lease_answers
 use Rattle.conn_core.specs.declared.answers.SendRefusal.{SendRefusal}
-use Rattle.conn_core.specs.declared.answers.SendRefusal.TheVariants as sends
+use Rattle.conn_core.specs.declared.answers.SendRefusal.TheVariants as send_refusals
 use Rattle.conn_core.specs.declared.answers.Sending.{Sending}
 use Rattle.conn_core.specs.declared.answers.SubmitRefusal.{SubmitRefusal}
-use Rattle.conn_core.specs.declared.answers.SubmitRefusal.TheVariants as submits
+use Rattle.conn_core.specs.declared.answers.SubmitRefusal.TheVariants as submit_refusals
 use Rattle.conn_core.specs.declared.answers.TakeRefusal.{TakeRefusal}
-use Rattle.conn_core.specs.declared.answers.TakeRefusal.TheVariants as takes
+use Rattle.conn_core.specs.declared.answers.TakeRefusal.TheVariants as take_refusals
 use Rattle.answer_texts.specs.Texts.{frame_why_text, kind_text, outcome_text, reason_text, write_why_text}
 
 abbrev pub closed_text : Reason → List ℕ
@@ -29,46 +29,46 @@ closed_text reason = codes "closed " ++ reason_text reason
 
 -- a lease was asked
 abbrev pub asked_text : Result LeaseAnswer AskRefusal → List ℕ
-asked_text (Ok (leases.Granted lease)) = codes "granted " ++ decimal lease
-asked_text (Ok (leases.Waiting lease place)) = codes "waiting " ++ decimal lease ++ codes " " ++ decimal place
-asked_text (Err (asks.Closed reason)) = closed_text reason
-asked_text (Err asks.QueueFull) = codes "queue full"
-asked_text (Err asks.NoMemory) = codes "no memory"
+asked_text (Ok (lease_answers.Granted lease)) = codes "granted " ++ decimal lease
+asked_text (Ok (lease_answers.Waiting lease place)) = codes "waiting " ++ decimal lease ++ codes " " ++ decimal place
+asked_text (Err (ask_refusals.Closed reason)) = closed_text reason
+asked_text (Err ask_refusals.QueueFull) = codes "queue full"
+asked_text (Err ask_refusals.NoMemory) = codes "no memory"
 
 -- a request was handed in
 abbrev pub submitted_text : Result Accepted SubmitRefusal → List ℕ
 submitted_text (Ok accepted) = codes "started " ++ decimal accepted.id ++ codes " " ++ decimal accepted.reference
-submitted_text (Err (submits.Closed reason)) = closed_text reason
-submitted_text (Err submits.NoLease) = codes "no lease"
-submitted_text (Err submits.TableFull) = codes "table full"
-submitted_text (Err (submits.Unwritable entry why)) = codes "unwritable " ++ write_why_text why
-submitted_text (Err (submits.TooLarge size limit)) = codes "too large " ++ decimal size ++ codes " " ++ decimal limit
-submitted_text (Err submits.NoReference) = codes "no reference"
-submitted_text (Err submits.NoMemory) = codes "no memory"
+submitted_text (Err (submit_refusals.Closed reason)) = closed_text reason
+submitted_text (Err submit_refusals.NoLease) = codes "no lease"
+submitted_text (Err submit_refusals.TableFull) = codes "table full"
+submitted_text (Err (submit_refusals.Unwritable entry why)) = codes "unwritable " ++ write_why_text why
+submitted_text (Err (submit_refusals.TooLarge size limit)) = codes "too large " ++ decimal size ++ codes " " ++ decimal limit
+submitted_text (Err submit_refusals.NoReference) = codes "no reference"
+submitted_text (Err submit_refusals.NoMemory) = codes "no memory"
 
 -- the next frame was asked for
 abbrev pub sent_text : Result Sending SendRefusal → List ℕ
 sent_text (Ok sending) = codes "sent " ++ decimal sending.id ++ codes " " ++ encode_lower sending.frame
-sent_text (Err (sends.Closed reason)) = closed_text reason
-sent_text (Err sends.Nothing) = codes "nothing"
+sent_text (Err (send_refusals.Closed reason)) = closed_text reason
+sent_text (Err send_refusals.Nothing) = codes "nothing"
 
 -- a frame came
 abbrev pub received_text : Result FrameAnswer FrameRefusal → List ℕ
-received_text (Ok (frames.Ended id kind)) = codes "ended " ++ decimal id ++ codes " " ++ kind_text kind
-received_text (Ok (frames.Late reference)) = codes "late " ++ decimal reference
-received_text (Ok (frames.Stray reference)) = codes "stray " ++ decimal reference
-received_text (Ok (frames.Undecodable index why)) = codes "undecodable " ++ decimal index ++ codes " " ++ frame_why_text why
+received_text (Ok (frame_answers.Ended id kind)) = codes "ended " ++ decimal id ++ codes " " ++ kind_text kind
+received_text (Ok (frame_answers.Late reference)) = codes "late " ++ decimal reference
+received_text (Ok (frame_answers.Stray reference)) = codes "stray " ++ decimal reference
+received_text (Ok (frame_answers.Undecodable index why)) = codes "undecodable " ++ decimal index ++ codes " " ++ frame_why_text why
 received_text (Err (frame_refusals.Closed reason)) = closed_text reason
 received_text (Err frame_refusals.NoMemory) = codes "no memory"
 
 -- a request was to be cancelled
 abbrev pub cancelled_text : Result (Unit {0}) CancelRefusal → List ℕ
-cancelled_text (Ok done) = codes "cancelled"
-cancelled_text (Err (cancels.AlreadyEnded kind)) = codes "ended " ++ kind_text kind
-cancelled_text (Err cancels.NoRequest) = codes "no request"
+cancelled_text (Ok _) = codes "cancelled"
+cancelled_text (Err (cancel_refusals.AlreadyEnded kind)) = codes "ended " ++ kind_text kind
+cancelled_text (Err cancel_refusals.NoRequest) = codes "no request"
 
 -- the outcome of a request was asked for
 abbrev pub collected_text : Result Outcome TakeRefusal → List ℕ
 collected_text (Ok outcome) = outcome_text outcome
-collected_text (Err takes.Pending) = codes "pending"
-collected_text (Err takes.NoRequest) = codes "no request"
+collected_text (Err take_refusals.Pending) = codes "pending"
+collected_text (Err take_refusals.NoRequest) = codes "no request"

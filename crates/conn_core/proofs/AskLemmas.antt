@@ -62,7 +62,7 @@ ask_carries p s t actor now h =
 drawn_carries : (p : Ask → Bool) (t : Table) (q : Request) (frame free : List ℕ) → IsTrue (p q.ask) → Carries p t → Carries p (table_or t (with_reference t q frame free))
 drawn_carries p t q frame [] passes h = h
 drawn_carries p t q frame (reference ∷ rest) passes h =
-    let row : Row = record { id = t.requests + 1; actor = q.actor; lease = q.lease; ask = q.ask; reference = reference; deadline = deadline_of (max t.clock q.moment) q.timeout; phase = Queued frame } in
+    let row : Row = record { id = t.requests_drawn + 1; actor = q.actor; lease = q.lease; ask = q.ask; reference = reference; deadline = deadline_of (max t.clock q.moment) q.timeout; phase = Queued frame } in
     let more = weight_push (unasked p) t.rows row in
     let none : unasked p row ≡ 0 = ap (λ b. cond b 0 1) passes in omega arith
 
@@ -120,7 +120,7 @@ arrived_carries p wire t reference reading None h = late_carries p t reference (
 arrived_carries p wire t reference reading (Some row) h = let same = changed_carries p (is_sent_with reference) (ended_row (wire.fit row.ask reading)) t.rows (λ r. refl) in omega arith
 
 received_carries : (p : Ask → Bool) (wire : WireMeaning) (t : Table) (bytes : List ℕ) (o : Result Reading FrameWhy) → Carries p t → Carries p (received wire t bytes o).0
-received_carries p wire t bytes (Err why) h = let same = lost_asks p (reasons.Undecodable t.frames why) t.rows in omega arith
+received_carries p wire t bytes (Err why) h = let same = lost_asks p (reasons.Undecodable t.frames_taken why) t.rows in omega arith
 received_carries p wire t bytes (Ok reading) h = arrived_carries p wire t (wire.reference_of bytes) reading (find (is_sent_with (wire.reference_of bytes)) t.rows) h
 
 pub frame_carries : (p : Ask → Bool) (wire : WireMeaning) (t : Table) (bytes : List ℕ) → Carries p t → Carries p (table_or t (apply_frame wire t bytes))

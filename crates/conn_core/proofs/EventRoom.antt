@@ -42,9 +42,9 @@ asked_if_room s n room t actor now true test unclosed few share more h =
       held = omega (arith, length-append t.held);
       waiting = h.waiting;
       at_end = λ o. let is = opens t unclosed in absurd (cc);
-      leases = omega arith;
-      requests = omega arith;
-      frames = omega arith;
+      leases_drawn = omega arith;
+      requests_drawn = omega arith;
+      frames_taken = omega arith;
       zeros = h.zeros;
     }
 asked_if_room s n room t actor now false test unclosed few share more h =
@@ -59,9 +59,9 @@ asked_if_room s n room t actor now false test unclosed few share more h =
       held = h.held;
       waiting = omega (arith, length-append t.waiting);
       at_end = λ o. let is = opens t unclosed in absurd (cc);
-      leases = omega arith;
-      requests = omega arith;
-      frames = omega arith;
+      leases_drawn = omega arith;
+      requests_drawn = omega arith;
+      frames_taken = omega arith;
       zeros = h.zeros;
     }
 
@@ -75,7 +75,7 @@ pub started_room : (s : Settings) (n : ℕ) (room : Capacities) (t : Table) (q :
 started_room s n room t q frame reference rest unclosed free few more h =
     let all = entries_of_rows t.rows in
     let one = closes_bound t in
-    let row : Row = record { id = t.requests + 1; actor = q.actor; lease = q.lease; ask = q.ask; reference = reference; deadline = deadline_of (max t.clock q.moment) q.timeout; phase = Queued frame } in
+    let row : Row = record { id = t.requests_drawn + 1; actor = q.actor; lease = q.lease; ask = q.ask; reference = reference; deadline = deadline_of (max t.clock q.moment) q.timeout; phase = Queued frame } in
     let entries = weight_push entries_of t.rows row in
     let kept = weight_push references_kept t.rows row in
     let zeros = weight_push zero_row t.rows row in
@@ -90,9 +90,9 @@ started_room s n room t q frame reference rest unclosed free few more h =
       held = h.held;
       waiting = h.waiting;
       at_end = λ o. let is = opens t unclosed in absurd (cc);
-      leases = omega arith;
-      requests = omega arith;
-      frames = omega arith;
+      leases_drawn = omega arith;
+      requests_drawn = omega arith;
+      frames_taken = omega arith;
       zeros = omega arith;
     }
 
@@ -114,15 +114,15 @@ sent_room s n room t row frame unclosed found queued h =
       held = h.held;
       waiting = h.waiting;
       at_end = λ o. let is = opens t unclosed in absurd (cc);
-      leases = omega arith;
-      requests = omega arith;
-      frames = omega arith;
+      leases_drawn = omega arith;
+      requests_drawn = omega arith;
+      frames_taken = omega arith;
       zeros = omega arith;
     }
 
 -- a live row ends, and its reference goes to one list or the other
 pub ended_room : (s : Settings) (n m : ℕ) (room : Capacities) (t : Table) (p : Row → Bool) (row : Row) (outcome : Outcome) (free quarantined : List ℕ) → m ≤ n + 1 → find p t.rows ≡ Some row → references_kept row ≡ 1 → 2 ≤ entries_of row → length free + length quarantined ≡ length t.free + length t.quarantined + 1 → weight_of zero_reference free + weight_of zero_reference quarantined ≤ weight_of zero_reference t.free + weight_of zero_reference t.quarantined + weight_of zero_row t.rows → IsRoomy s n room t
-    → IsRoomy s (n + 1) room (record t { rows = change_first p (ended_row outcome) t.rows; free = free; quarantined = quarantined; frames = m })
+    → IsRoomy s (n + 1) room (record t { rows = change_first p (ended_row outcome) t.rows; free = free; quarantined = quarantined; frames_taken = m })
 ended_room s n m room t p row outcome free quarantined fewer found had was given clean h =
     let entries = weight_change entries_of p (ended_row outcome) t.rows row found in
     let kept = weight_change references_kept p (ended_row outcome) t.rows row found in
@@ -137,15 +137,15 @@ ended_room s n m room t p row outcome free quarantined fewer found had was given
       held = h.held;
       waiting = h.waiting;
       at_end = λ o. let end = h.at_end o in omega arith;
-      leases = omega arith;
-      requests = omega arith;
-      frames = omega arith;
+      leases_drawn = omega arith;
+      requests_drawn = omega arith;
+      frames_taken = omega arith;
       zeros = omega arith;
     }
 
 -- a frame ends nothing
 pub passed_room : (s : Settings) (n m : ℕ) (room : Capacities) (t : Table) (free quarantined : List ℕ) → m ≤ n + 1 → t.closed ≡ None → length free + length quarantined ≡ length t.free + length t.quarantined → weight_of zero_reference free + weight_of zero_reference quarantined ≤ weight_of zero_reference t.free + weight_of zero_reference t.quarantined → HasTurnRoom n room t → IsRoomy s n room t
-    → IsRoomy s (n + 1) room (record t { free = free; quarantined = quarantined; frames = m })
+    → IsRoomy s (n + 1) room (record t { free = free; quarantined = quarantined; frames_taken = m })
 passed_room s n m room t free quarantined fewer unclosed given clean more h =
     let all = entries_of_rows t.rows in
     let one = closes_bound t in
@@ -158,9 +158,9 @@ passed_room s n m room t free quarantined fewer unclosed given clean more h =
       held = h.held;
       waiting = h.waiting;
       at_end = λ o. let is = opens t unclosed in absurd (cc);
-      leases = omega arith;
-      requests = omega arith;
-      frames = omega arith;
+      leases_drawn = omega arith;
+      requests_drawn = omega arith;
+      frames_taken = omega arith;
       zeros = omega arith;
     }
 
@@ -181,8 +181,8 @@ collected_room s n room t p row outcome found ended h =
       held = h.held;
       waiting = h.waiting;
       at_end = λ o. let end = h.at_end o in omega arith;
-      leases = omega arith;
-      requests = omega arith;
-      frames = omega arith;
+      leases_drawn = omega arith;
+      requests_drawn = omega arith;
+      frames_taken = omega arith;
       zeros = omega arith;
     }

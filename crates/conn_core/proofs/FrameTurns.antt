@@ -28,13 +28,13 @@ reference_is reference r b is h = let same : is_reference reference r ≡ true =
 late_turns : (s : Settings) (n : ℕ) (room : Capacities) (t : Table) (reference : ℕ) (o : Option ℕ) → find (is_reference reference) t.quarantined ≡ o → t.closed ≡ None → HasTurnRoom n room t → IsRoomy s n room t → IsUnderWay s n t
     → CanTurn s n room (counted (without_row t reference o)).0
 late_turns s n room t reference None found unclosed more h way =
-    record { after = passed_room s n (t.frames + 1) room t t.free t.quarantined (omega arith) unclosed (omega arith) (omega arith) more h; under_way = way }
+    record { after = passed_room s n (t.frames_taken + 1) room t t.free t.quarantined (omega arith) unclosed (omega arith) (omega arith) more h; under_way = way }
 late_turns s n room t reference (Some r) found unclosed more h way =
     let len = length-remove_first (is_reference reference) t.quarantined r found in
     let left = weight_remove zero_reference (is_reference reference) t.quarantined r found in
     let same : r ≡ reference = reference_is reference r _ refl (found_passes (is_reference reference) t.quarantined r found) in
     let zero : zero_reference r ≡ zero_reference reference = ap zero_reference same in
-    record { after = passed_room s n (t.frames + 1) room t (t.free ++ reference ∷ []) _ (omega arith) unclosed (omega (arith, length-append t.free (reference ∷ []))) (omega (arith, weight_join zero_reference t.free (reference ∷ []))) more h; under_way = way }
+    record { after = passed_room s n (t.frames_taken + 1) room t (t.free ++ reference ∷ []) _ (omega arith) unclosed (omega (arith, length-append t.free (reference ∷ []))) (omega (arith, weight_join zero_reference t.free (reference ∷ []))) more h; under_way = way }
 
 arrived_turns : (wire : WireMeaning) (s : Settings) (n : ℕ) (room : Capacities) (t : Table) (reference : ℕ) (reading : Reading) (o : Option Row) → find (is_sent_with reference) t.rows ≡ o → t.closed ≡ None → HasTurnRoom n room t → IsRoomy s n room t → IsUnderWay s n t
     → CanTurn s n room (counted (arrived wire t reference reading o)).0
@@ -46,7 +46,7 @@ arrived_turns wire s n room t reference reading (Some row) found unclosed more h
     let zero = weight_found zero_row (is_sent_with reference) t.rows row found in
     let same : row.reference ≡ reference = reference_is reference row.reference _ refl (and_left (is_reference reference row.reference) _ passes) in
     let zeros : zero_row row ≡ zero_reference reference = ap zero_reference same in
-    record { after = ended_room s n (t.frames + 1) room t (is_sent_with reference) row (wire.fit row.ask reading) (t.free ++ reference ∷ []) t.quarantined (omega arith) found kept (omega arith) (omega (arith, length-append t.free (reference ∷ []))) (omega (arith, weight_join zero_reference t.free (reference ∷ []))) h; under_way = way }
+    record { after = ended_room s n (t.frames_taken + 1) room t (is_sent_with reference) row (wire.fit row.ask reading) (t.free ++ reference ∷ []) t.quarantined (omega arith) found kept (omega arith) (omega (arith, length-append t.free (reference ∷ []))) (omega (arith, weight_join zero_reference t.free (reference ∷ []))) h; under_way = way }
 
 -- a table that was closed by a frame stays so
 refused_turns : (s : Settings) (n : ℕ) (room : Capacities) (t : Table) (why : FrameWhy) → t.closed ≡ None → HasTurnRoom n room t → IsRoomy s n room t → IsUnderWay s n t
@@ -54,8 +54,8 @@ refused_turns : (s : Settings) (n : ℕ) (room : Capacities) (t : Table) (why : 
 refused_turns s n room t why unclosed more h way =
     let below : n < s.journal = way (opens t unclosed) in
     let all = entries_of_rows t.rows in
-    let counted_in : IsRoomy s (n + 1) room (record t { frames = t.frames + 1 }) = passed_room s n (t.frames + 1) room t t.free t.quarantined (omega arith) unclosed (omega arith) (omega arith) more h in
-    record { after = closed_room s (n + 1) (n + 1) room (record t { frames = t.frames + 1 }) (reasons.Undecodable t.frames why) (omega arith) (omega arith) (omega arith) (omega arith) (omega arith) (omega arith) counted_in; under_way = λ o. cc }
+    let counted_in : IsRoomy s (n + 1) room (record t { frames_taken = t.frames_taken + 1 }) = passed_room s n (t.frames_taken + 1) room t t.free t.quarantined (omega arith) unclosed (omega arith) (omega arith) more h in
+    record { after = closed_room s (n + 1) (n + 1) room (record t { frames_taken = t.frames_taken + 1 }) (reasons.Undecodable t.frames_taken why) (omega arith) (omega arith) (omega arith) (omega arith) (omega arith) (omega arith) counted_in; under_way = λ o. cc }
 
 received_turns : (wire : WireMeaning) (s : Settings) (n : ℕ) (room : Capacities) (t : Table) (bytes : List ℕ) (o : Result Reading FrameWhy) → t.closed ≡ None → HasTurnRoom n room t → IsRoomy s n room t → IsUnderWay s n t
     → CanTurn s n room (received wire t bytes o).0

@@ -44,12 +44,17 @@ pub can_on : (s : Settings) (n : ℕ) (room more : Capacities) (t u : Table) →
 can_on s n room more t u tables a b c can =
     record { after = subst (λ v. IsRoomy s (n + 1) more v) (sym tables) (roomier s (n + 1) room more t a b c can.after); under_way = subst (λ v. IsUnderWay s n v) (sym tables) can.under_way }
 
-short_if : (s : Settings) (k : Kept) (b : Bool) → is_open (lists_of k.table) ≡ b → IsSettings s → IsKept s k → vec_len k.journal < 2 ^ 63
-short_if s k true opened settings kept = let below = kept.under_way opened in let limit = settings.journal.1 in omega arith
-short_if s k false opened settings kept = let below = kept.room.at_end opened in let limit = settings.journal.1 in omega arith
+within_if : (s : Settings) (k : Kept) (b : Bool) → is_open (lists_of k.table) ≡ b → IsKept s k → vec_len k.journal ≤ s.journal + 1025
+within_if s k true opened kept = let below = kept.under_way opened in omega arith
+within_if s k false opened kept = let below = kept.room.at_end opened in omega arith
+
+-- past its limit a journal has the close and a collection for each row
+pub kept_within : (s : Settings) (k : Kept) → IsKept s k → length k.journal.items ≤ s.journal + 1025
+kept_within s k kept =
+    let old = k.journal.ok.0 in
+    let within = within_if s k (is_open (lists_of k.table)) refl kept in omega arith
 
 -- the journal's limit keeps it short
 pub kept_short : (s : Settings) (k : Kept) → IsSettings s → IsKept s k → length k.journal.items < 2 ^ 63
 kept_short s k settings kept =
-    let old = k.journal.ok.0 in
-    let short = short_if s k (is_open (lists_of k.table)) refl settings kept in omega arith
+    let within = kept_within s k kept in let limit = settings.journal.1 in omega arith

@@ -37,9 +37,9 @@ opening_room s room settings a b c =
       held = omega arith;
       waiting = omega arith;
       at_end = λ o. cc;
-      leases = omega arith;
-      requests = omega arith;
-      frames = omega arith;
+      leases_drawn = omega arith;
+      requests_drawn = omega arith;
+      frames_taken = omega arith;
       zeros = omega arith;
     }
 
@@ -60,9 +60,9 @@ begun rows free quarantined held waiting = record {
   waiting = waiting;
   clock = 0;
   closed = None;
-  leases = 0;
-  requests = 0;
-  frames = 0;
+  leases_drawn = 0;
+  requests_drawn = 0;
+  frames_taken = 0;
 }
 
 pub opening_is : (s : Settings) (rows : List Row) (free quarantined : List ℕ) (held waiting : List Lease) → rows ≡ [] → free ≡ range_with_len 1 s.references → quarantined ≡ [] → held ≡ [] → waiting ≡ [] → begun rows free quarantined held waiting ≡ opening s

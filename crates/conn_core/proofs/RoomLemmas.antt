@@ -28,6 +28,16 @@ pub lost_entries : (reason : Reason) (rows : List Row) → weight_of entries_of 
 lost_entries reason [] = omega arith
 lost_entries reason (row ∷ rows) = let one = lost_entries_of reason row.phase in let rest = lost_entries reason rows in omega arith
 
+lost_entry : (reason : Reason) (phase : Phase) → phase_entries (lost_phase reason phase) ≡ 1
+lost_entry reason (Queued frame) = refl
+lost_entry reason Sent = refl
+lost_entry reason (Ended outcome) = refl
+
+-- a lost row can be collected, and nothing else
+pub lost_rows_entries : (reason : Reason) (rows : List Row) → weight_of entries_of (map (lost_row reason) rows) ≡ length rows
+lost_rows_entries reason [] = refl
+lost_rows_entries reason (row ∷ rows) = let one = lost_entry reason row.phase in let rest = lost_rows_entries reason rows in omega arith
+
 lost_reference : (reason : Reason) (phase : Phase) → phase_references (lost_phase reason phase) ≡ 0
 lost_reference reason (Queued frame) = refl
 lost_reference reason Sent = refl

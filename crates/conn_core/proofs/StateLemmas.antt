@@ -33,7 +33,7 @@ pub table_of-append : (c : Connection) (xs ys : List Entry) → table_of c (xs +
 unfolding table_of
 table_of-append c xs ys = after_more c (opening c.settings) xs ys
 
-none_where_open : (closed : Option Reason) (t : Table) → t.closed ≡ closed → is_open (record t { closed = closed }) ≡ true → closed ≡ None
+pub none_where_open : (closed : Option Reason) (t : Table) → t.closed ≡ closed → is_open (record t { closed = closed }) ≡ true → closed ≡ None
 none_where_open None t e h = refl
 none_where_open (Some reason) t e h = cc
 

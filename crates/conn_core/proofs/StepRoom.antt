@@ -11,7 +11,7 @@ use Rattle.conn_core.specs.Steps.{closed_by}
 use Rattle.conn_core.specs.Tables.{Table, is_open, is_queued, is_sent, lost_row, references_of}
 use Rattle.conn_core.specs.declared.entries.Entry.{Entry}
 use Rattle.conn_core.specs.declared.settings.Settings.{Settings}
-use Rattle.conn_core.proofs.RoomLemmas.{entries_of_rows, length-map_rows, lost_entries, lost_references, lost_zeros, references_given_up, weight_join, zero_references}
+use Rattle.conn_core.proofs.RoomLemmas.{length-map_rows, lost_entries, lost_rows_entries, lost_references, lost_zeros, references_given_up, weight_join, zero_references}
 use Rattle.conn_core.proofs.TurnLemmas.{and_left, closes_where_worn}
 
 pub closes_bound : (t : Table) → closes_of t ≤ 1
@@ -32,17 +32,17 @@ roomier s n room more t a b c h =
       held = h.held;
       waiting = h.waiting;
       at_end = h.at_end;
-      leases = h.leases;
-      requests = h.requests;
-      frames = h.frames;
+      leases_drawn = h.leases_drawn;
+      requests_drawn = h.requests_drawn;
+      frames_taken = h.frames_taken;
       zeros = h.zeros;
     }
 
-pub closed_room : (s : Settings) (n m : ℕ) (room : Capacities) (t : Table) (reason : Reason) → n ≤ m → m ≤ s.journal + 1 → m + weight_of entries_of t.rows ≤ room.journal → t.leases ≤ m → t.requests ≤ m → t.frames ≤ m
+pub closed_room : (s : Settings) (n m : ℕ) (room : Capacities) (t : Table) (reason : Reason) → n ≤ m → m ≤ s.journal + 1 → m + weight_of entries_of t.rows ≤ room.journal → t.leases_drawn ≤ m → t.requests_drawn ≤ m → t.frames_taken ≤ m
     → IsRoomy s n room t → IsRoomy s m room (closed_by reason t)
 closed_room s n m room t reason up end fits leases requests frames h =
     let lost = lost_entries reason t.rows in
-    let all = entries_of_rows t.rows in
+    let ended = lost_rows_entries reason t.rows in
     let none = lost_references reason t.rows in
     let given = references_given_up t.rows in
     let len = length-map_rows (lost_row reason) t.rows in
@@ -58,9 +58,9 @@ closed_room s n m room t reason up end fits leases requests frames h =
       held = omega arith;
       waiting = omega arith;
       at_end = λ _. omega arith;
-      leases = leases;
-      requests = requests;
-      frames = frames;
+      leases_drawn = leases;
+      requests_drawn = requests;
+      frames_taken = frames;
       zeros = omega (arith, weight_join zero_reference t.free (references_of is_queued t.rows), weight_join zero_reference t.quarantined (references_of is_sent t.rows));
     }
 

@@ -1,11 +1,14 @@
 pub mod Ends
+pub mod Entries
 pub mod Finds
 pub mod HistoryLaw
 pub mod Journals
 pub mod KeptStates
 pub mod LeaseLists
+pub mod Places
 pub mod Requests
 pub mod Rooms
 pub mod States
 pub mod Steps
+pub mod TableLaw
 pub mod Tables

@@ -5,7 +5,7 @@ use Rattle.std.specs.VecDeque.{deque_capacity}
 use Rattle.wire_frames.specs.declared.asks.Ask.{Ask}
 use Rattle.conn_core.specs.Finds.{weight_of}
 use Rattle.conn_core.specs.Journals.{settled, turn_of}
-use Rattle.conn_core.specs.Tables.{Table as Lists, is_open}
+use Rattle.conn_core.specs.Tables.{Table as Lists, is_open, rows_limit, waiters_limit}
 use Rattle.conn_core.specs.declared.entries.Entry.{Entry}
 use Rattle.conn_core.specs.declared.kept.Kept.{Kept}
 use Rattle.conn_core.specs.declared.rows.Phase.{Phase}
@@ -24,9 +24,9 @@ lists_of t = record {
   waiting = t.waiting.items;
   clock = t.clock;
   closed = t.closed;
-  leases = t.leases;
-  requests = t.requests;
-  frames = t.frames;
+  leases_drawn = t.leases_drawn;
+  requests_drawn = t.requests_drawn;
+  frames_taken = t.frames_taken;
 }
 
 -- how many entries a row can still cause without taking memory: it is sent, it ends, it is collected
@@ -77,13 +77,13 @@ pub record IsRoomy (s : Settings) (entries : ℕ) (room : Capacities) (t : Lists
   pub references : length t.free + length t.quarantined + weight_of references_kept t.rows ≤ s.references
   pub free : s.references ≤ room.free
   pub quarantined : s.references ≤ room.quarantined
-  pub rows : length t.rows ≤ 1024
+  pub rows : length t.rows ≤ rows_limit
   pub held : length t.held ≤ 64
-  pub waiting : length t.waiting ≤ 64
-  pub at_end : is_open t ≡ false → entries + weight_of entries_of t.rows ≤ s.journal + 4000
-  pub leases : t.leases ≤ entries
-  pub requests : t.requests ≤ entries
-  pub frames : t.frames ≤ entries
+  pub waiting : length t.waiting ≤ waiters_limit
+  pub at_end : is_open t ≡ false → entries + weight_of entries_of t.rows ≤ s.journal + 1025
+  pub leases_drawn : t.leases_drawn ≤ entries
+  pub requests_drawn : t.requests_drawn ≤ entries
+  pub frames_taken : t.frames_taken ≤ entries
   pub zeros : weight_of zero_reference t.free + weight_of zero_reference t.quarantined + weight_of zero_row t.rows ≡ 0
 
 -- an open table has fewer entries behind it than the journal's limit
@@ -99,7 +99,8 @@ pub record CanTurn (s : Settings) (entries : ℕ) (room : Capacities) (t : Lists
   pub after : IsRoomy s (entries + 1) room t
   pub under_way : IsUnderWay s entries t
 
--- room for all that an asked lease, a request or a frame can cause
+-- room for all that an asked lease, a request or a frame can cause: its own entry, at most three of a new row (it is sent,
+-- it ends, it is collected), one of a new lease, and the close
 abbrev pub HasTurnRoom : ℕ → Capacities → Lists → Type 0
 HasTurnRoom entries room t = entries + 3 * length t.rows + length t.held + length t.waiting + 6 ≤ room.journal
 

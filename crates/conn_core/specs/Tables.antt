@@ -11,7 +11,7 @@ use Rattle.conn_core.specs.declared.rows.Phase.TheVariants.{Queued, Sent, Ended}
 use Rattle.conn_core.specs.declared.rows.Row.{Row}
 use Rattle.conn_core.specs.declared.settings.Settings.{Settings}
 
--- what is fixed for a connection
+-- what the steps need of a connection: what its wire means, and its settings
 pub record Connection : Type 0 where
   pub wire : WireMeaning
   pub settings : Settings
@@ -25,6 +25,13 @@ pub record IsSettings (s : Settings) : Type 0 where
   pub lease_ms : (1 ≤ s.lease_ms) × (s.lease_ms ≤ 86400000)
   pub wait_ms : (1 ≤ s.wait_ms) × (s.wait_ms ≤ 86400000)
 
+-- how many rows are kept at most, ended ones too, and how many leases are waited for
+abbrev pub rows_limit : ℕ
+rows_limit = 1024
+
+abbrev pub waiters_limit : ℕ
+waiters_limit = 64
+
 -- Rows stand in the order in which they were accepted, so by rising id; free references in the order in which they are
 -- drawn; quarantined references in the order in which they were put out; leases and waiters in their order.
 pub record Table : Type 0 where
@@ -37,9 +44,9 @@ pub record Table : Type 0 where
   -- why the table was closed, if it was
   pub closed : Option Reason
   -- how many lease numbers and request ids were drawn, and how many frames were taken
-  pub leases : ℕ
-  pub requests : ℕ
-  pub frames : ℕ
+  pub leases_drawn : ℕ
+  pub requests_drawn : ℕ
+  pub frames_taken : ℕ
 
 abbrev pub opening : Settings → Table
 opening s = record {
@@ -50,9 +57,9 @@ opening s = record {
   waiting = [];
   clock = 0;
   closed = None;
-  leases = 0;
-  requests = 0;
-  frames = 0;
+  leases_drawn = 0;
+  requests_drawn = 0;
+  frames_taken = 0;
 }
 
 abbrev pub is_open : Table → Bool
@@ -92,6 +99,7 @@ phase_ended (Ended outcome) = true
 abbrev pub is_queued : Row → Bool
 is_queued row = phase_queued row.phase
 
+-- handed out, and not ended
 abbrev pub is_sent : Row → Bool
 is_sent row = phase_sent row.phase
 

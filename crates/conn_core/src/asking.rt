@@ -18,7 +18,7 @@ pub(crate) fn ask(
 ) -> Result<LeaseAnswer, AskRefusal>
     requires held { vec_len table.old.held < vec_capacity table.old.held }
     requires waiting { vec_len table.old.waiting < vec_capacity table.old.waiting }
-    requires leases { table.old.leases < 2 ^ 64 - 1 }
+    requires leases { table.old.leases_drawn < 2 ^ 64 - 1 }
     ensures answer { result ≡ answer_of (ask_lease settings.now (lists_of table.old) actor now) }
     ensures table { lists_of table.new ≡ table_or (lists_of table.old) (ask_lease settings.now (lists_of table.old) actor now) }
     ensures free { table.new.free ≡ table.old.free }
@@ -31,8 +31,8 @@ pub(crate) fn ask(
         return Err(AskRefusal::QueueFull);
     }
     table.clock = table.clock.max(now);
-    table.leases += 1;
-    let lease = table.leases;
+    table.leases_drawn += 1;
+    let lease = table.leases_drawn;
     if table.held.len() < usize::from(settings.share) && table.waiting.is_empty() {
         let deadline = find_deadline(table.clock, settings.lease_ms);
         add(

@@ -1,7 +1,8 @@
-ghost use Rattle.std.specs.Prelude.{◌≡◌, ◌+◌, ◌<◌, ◌≤◌, ◌^◌, [], length, ◌⊎◌, Err, IfOk, OnErr, IsTrue};
+ghost use Rattle.std.specs.Prelude.{◌≡◌, ◌+◌, ◌<◌, ◌≤◌, ◌^◌, [], length, ◌⊎◌, Err, IfOk, IfSome, IsNone, OnErr, IsTrue};
 ghost use Rattle.conn_core.specs.Journals.{Legal};
 ghost use Rattle.conn_core.specs.Tables.{IsSettings};
 ghost use Rattle.conn_core.specs.Steps.{IsGiven, accepted_of, answer_of, apply_frame, ask_lease, cancel, collect, submit, take_send};
+ghost use Rattle.conn_core.specs.TableLaw.{ClosesWith, NoneCloses, TableLaw};
 ghost use Rattle.conn_core.specs.States.{Grows, connection_of, state_after, table_in};
 ghost use Rattle.conn_core.specs.declared.entries.Event.TheVariants as events;
 
@@ -59,6 +60,7 @@ impl<W: Wire> ConnState<W> {
         ensures answer { IsGiven AskRefusal.NoMemory result (answer_of (ask_lease self.old.key.settings (table_in W.meaning self.old) actor now)) }
         ensures state { (result ≡ Err AskRefusal.NoMemory) ⊎ (self.new ≡ state_after W.meaning self.old actor (events.AskLease now)) }
         ensures err { OnErr result (self.new.journal ≡ self.old.journal) }
+        ensures closed { (reason : Reason) → result ≡ Err (AskRefusal.Closed reason) → ClosesWith self.old.journal reason }
         ensures key { self.new.key ≡ self.old.key }
         ensures grows { Grows actor self.old.journal self.new.journal }
         ensures legal { Legal (connection_of W.meaning self.new.key) self.new.journal }
@@ -81,6 +83,7 @@ impl<W: Wire> ConnState<W> {
         ensures answer { IsGiven SubmitRefusal.NoMemory result (accepted_of (answer_of (submit (W.meaning self.old.key.wire) (table_in W.meaning self.old) (record { actor = actor; lease = lease; ask = ask; timeout = timeout_ms; moment = now })))) }
         ensures state { (result ≡ Err SubmitRefusal.NoMemory) ⊎ (self.new ≡ state_after W.meaning self.old actor (events.Submit lease ask timeout_ms now)) }
         ensures err { OnErr result (self.new.journal ≡ self.old.journal) }
+        ensures closed { (reason : Reason) → result ≡ Err (SubmitRefusal.Closed reason) → ClosesWith self.old.journal reason }
         ensures key { self.new.key ≡ self.old.key }
         ensures grows { Grows actor self.old.journal self.new.journal }
         ensures legal { Legal (connection_of W.meaning self.new.key) self.new.journal }
@@ -96,11 +99,12 @@ impl<W: Wire> ConnState<W> {
         requests::submit(&mut self.kept, &self.wire, &self.settings, request)
     }
 
-    /// Hands out the next frame to write. It takes no memory.
+    /// Hands out the next frame to write. It never fails for memory.
     pub fn take_send(&mut self, actor: u32) -> Result<Sending, SendRefusal>
         ensures answer { result ≡ answer_of (take_send self.old.key.settings (table_in W.meaning self.old)) }
         ensures state { self.new ≡ state_after W.meaning self.old actor (events.TakeSend) }
         ensures err { OnErr result (self.new.journal ≡ self.old.journal) }
+        ensures closed { (reason : Reason) → result ≡ Err (SendRefusal.Closed reason) → ClosesWith self.old.journal reason }
         ensures key { self.new.key ≡ self.old.key }
         ensures grows { Grows actor self.old.journal self.new.journal }
         ensures legal { Legal (connection_of W.meaning self.new.key) self.new.journal }
@@ -114,6 +118,7 @@ impl<W: Wire> ConnState<W> {
         ensures answer { IsGiven FrameRefusal.NoMemory result (answer_of (apply_frame (W.meaning self.old.key.wire) (table_in W.meaning self.old) frame)) }
         ensures state { (result ≡ Err FrameRefusal.NoMemory) ⊎ (self.new ≡ state_after W.meaning self.old actor (events.Frame frame)) }
         ensures err { OnErr result (self.new.journal ≡ self.old.journal) }
+        ensures closed { (reason : Reason) → result ≡ Err (FrameRefusal.Closed reason) → ClosesWith self.old.journal reason }
         ensures key { self.new.key ≡ self.old.key }
         ensures grows { Grows actor self.old.journal self.new.journal }
         ensures legal { Legal (connection_of W.meaning self.new.key) self.new.journal }
@@ -122,7 +127,7 @@ impl<W: Wire> ConnState<W> {
         frames::apply_frame(&mut self.kept, &self.wire, &self.settings, actor, frame)
     }
 
-    /// Ends a live request of the actor, unanswered. It takes no memory.
+    /// Ends a live request of the actor, unanswered. It never fails for memory.
     pub fn cancel(&mut self, actor: u32, id: u64) -> Result<(), CancelRefusal>
         ensures answer { result ≡ answer_of (cancel (table_in W.meaning self.old) actor id) }
         ensures state { self.new ≡ state_after W.meaning self.old actor (events.Cancel id) }
@@ -135,7 +140,7 @@ impl<W: Wire> ConnState<W> {
         calls::cancel(&mut self.kept, &self.settings, actor, id)
     }
 
-    /// Hands out how a request of the actor ended, and forgets it. It takes no memory.
+    /// Hands out how a request of the actor ended, and forgets it. It never fails for memory.
     pub fn collect(&mut self, actor: u32, id: u64) -> Result<Outcome, TakeRefusal>
         ensures answer { result ≡ answer_of (collect (table_in W.meaning self.old) actor id) }
         ensures state { self.new ≡ state_after W.meaning self.old actor (events.Collect id) }
@@ -150,7 +155,9 @@ impl<W: Wire> ConnState<W> {
 
     /// Why the connection closed, if it did.
     pub fn closed(&self) -> Option<Reason>
-        ensures { result ≡ (table_in W.meaning self.now).closed }
+        ensures why { result ≡ (table_in W.meaning self.now).closed }
+        ensures cause { IfSome result (λ reason. ClosesWith self.now.journal reason) }
+        ensures unclosed { IsNone result → NoneCloses self.now.journal }
     {
         self.kept.table.closed
     }
@@ -162,19 +169,23 @@ impl<W: Wire> ConnState<W> {
         self.wire.admits(ask)
     }
 
-    /// All that happened, in order.
+    /// All that happened, in order. Past its limit it has the close and a collection for each row that was kept then.
     pub fn journal(&self) -> &[Entry]
         ensures journal { result.now ≡ self.now.journal }
         ensures legal { Legal (connection_of W.meaning self.now.key) self.now.journal }
+        ensures places { TableLaw (connection_of W.meaning self.now.key) self.now.journal }
+        ensures within { length self.now.journal ≤ self.now.key.settings.journal + 1025 }
         ensures short { length self.now.journal < 2 ^ 63 }
     {
         self.kept.journal.as_slice()
     }
 
-    /// The journal by itself. It takes no memory.
+    /// The journal by itself.
     pub fn into_journal(self) -> EntryList
         ensures journal { result ≡ self.journal }
         ensures legal { Legal (connection_of W.meaning self.key) self.journal }
+        ensures places { TableLaw (connection_of W.meaning self.key) self.journal }
+        ensures within { length self.journal ≤ self.key.settings.journal + 1025 }
         ensures short { length self.journal < 2 ^ 63 }
     {
         let ConnState { kept, .. } = self;

@@ -133,9 +133,9 @@ pub(crate) fn open_kept(alloc: Global, settings: &Settings) -> Result<Kept, Allo
             waiting: Vec::new(alloc),
             clock: 0,
             closed: None,
-            leases: 0,
-            requests: 0,
-            frames: 0,
+            leases_drawn: 0,
+            requests_drawn: 0,
+            frames_taken: 0,
         },
     })
 }

@@ -14,6 +14,7 @@ mod entries;
 mod finding;
 mod frames;
 mod kept;
+mod laws;
 mod lists;
 mod receiving;
 mod requests;
@@ -24,6 +25,8 @@ mod submitting;
 mod tables;
 #[cfg(test)]
 mod tests;
+#[cfg(test)]
+mod wire_tests;
 
 pub use answers::{
     Accepted, AskRefusal, CancelRefusal, FrameAnswer, FrameRefusal, LeaseAnswer, LeaseRefusal,
@@ -31,5 +34,6 @@ pub use answers::{
 };
 pub use conn::ConnState;
 pub use entries::{Answer, Entry, EntryList, Event};
+pub use laws::table_by_places;
 pub use rows::{Lease, Phase, Row};
 pub use settings::Settings;

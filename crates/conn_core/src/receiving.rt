@@ -75,14 +75,14 @@ fn arrive<W: Wire>(
 fn refuse(table: &mut Table, why: FrameWhy) -> FrameAnswer
     requires free { deque_len table.old.free + weight_of references_kept table.old.rows.items ≤ deque_capacity table.old.free }
     requires quarantined { vec_len table.old.quarantined + weight_of references_kept table.old.rows.items ≤ vec_capacity table.old.quarantined }
-    requires frames { table.old.frames < 2 ^ 64 - 1 }
+    requires frames { table.old.frames_taken < 2 ^ 64 - 1 }
     ensures answer { result ≡ (refused_frame (lists_of table.old) why).1 }
     ensures table { lists_of table.new ≡ (refused_frame (lists_of table.old) why).0 }
     ensures free_room { deque_capacity table.old.free ≤ deque_capacity table.new.free }
     ensures quarantine_room { vec_capacity table.old.quarantined ≤ vec_capacity table.new.quarantined }
 {
-    let index = table.frames;
-    table.frames += 1;
+    let index = table.frames_taken;
+    table.frames_taken += 1;
     close(table, Reason::Undecodable { index, why });
     FrameAnswer::Undecodable { index, why }
 }
@@ -96,7 +96,7 @@ pub(crate) fn receive<W: Wire>(
     requires free { deque_len table.old.free + vec_len table.old.quarantined + weight_of references_kept table.old.rows.items ≤ deque_capacity table.old.free }
     requires quarantined { vec_len table.old.quarantined + weight_of references_kept table.old.rows.items ≤ vec_capacity table.old.quarantined }
     requires asks { weight_of (unasked (W.meaning wire.now).admits) table.old.rows.items ≡ 0 }
-    requires frames { table.old.frames < 2 ^ 64 - 1 }
+    requires frames { table.old.frames_taken < 2 ^ 64 - 1 }
     ensures answer { IsGiven FrameRefusal.NoMemory result (answer_of (apply_frame (W.meaning wire.now) (lists_of table.old) bytes.now)) }
     ensures table { OnOk result (lists_of table.new ≡ table_or (lists_of table.old) (apply_frame (W.meaning wire.now) (lists_of table.old) bytes.now)) }
     ensures stays { OnErr result (lists_of table.new ≡ lists_of table.old) }
@@ -109,7 +109,7 @@ pub(crate) fn receive<W: Wire>(
     match wire.reply(table.alloc, bytes) {
         Ok(reply) => {
             let answer = arrive(table, wire, &reply)?;
-            table.frames += 1;
+            table.frames_taken += 1;
             Ok(answer)
         }
         Err(ReplyFault::Undecodable(why)) => Ok(refuse(table, why)),

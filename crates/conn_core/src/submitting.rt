@@ -58,7 +58,7 @@ pub(crate) fn start(
     frame: ByteList,
 ) -> Result<Accepted, SubmitRefusal>
     requires rows { vec_len table.old.rows < vec_capacity table.old.rows }
-    requires requests { table.old.requests < 2 ^ 64 - 1 }
+    requires requests { table.old.requests_drawn < 2 ^ 64 - 1 }
     ensures answer { result ≡ accepted_of (answer_of (with_reference (lists_of table.old) (request_of request) frame table.old.free.items)) }
     ensures table { lists_of table.new ≡ table_or (lists_of table.old) (with_reference (lists_of table.old) (request_of request) frame table.old.free.items) }
     ensures free_room { deque_capacity table.old.free ≤ deque_capacity table.new.free }
@@ -76,8 +76,8 @@ pub(crate) fn start(
         moment,
     } = request;
     table.clock = table.clock.max(moment);
-    table.requests += 1;
-    let id = table.requests;
+    table.requests_drawn += 1;
+    let id = table.requests_drawn;
     let row = Row {
         id,
         actor,

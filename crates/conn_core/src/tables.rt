@@ -9,8 +9,8 @@ use std::alloc::{AllocError, Global};
 use std::collections::VecDeque;
 use wire_frames::Reason;
 
-/// The table of a connection as lists. `leases`, `requests` and `frames` count what was drawn and
-/// taken so far.
+/// The table of a connection as lists. The last three count what was
+/// drawn and taken so far.
 #[derive(Drop)]
 pub(crate) struct Table {
     pub alloc: Global,
@@ -21,9 +21,9 @@ pub(crate) struct Table {
     pub waiting: Vec<Lease>,
     pub clock: u64,
     pub closed: Option<Reason>,
-    pub leases: u64,
-    pub requests: u64,
-    pub frames: u64,
+    pub leases_drawn: u64,
+    pub requests_drawn: u64,
+    pub frames_taken: u64,
 }
 
 /// The moment so many milliseconds after the clock, or the greatest one.

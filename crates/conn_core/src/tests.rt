@@ -8,6 +8,15 @@ use std::process::Abort;
 use std::test::Fail;
 use wire_frames::{Ask, EndKind, FrameWhy, PlcValue, RawWire, Reason, Wire};
 
+const SETTINGS: Settings = Settings {
+    references: 2,
+    window: 8,
+    share: 1,
+    journal: 64,
+    lease_ms: 60000,
+    wait_ms: 60000,
+};
+
 /// A line of a script, by actor 1 where it has one.
 #[derive(Clone, Copy)]
 enum Line {
@@ -117,11 +126,7 @@ fn run(
 ) -> Result<(), Fail> {
     let settings = Settings {
         references: references.max(1),
-        window: 8,
-        share: 1,
-        journal: 64,
-        lease_ms: 60000,
-        wait_ms: 60000,
+        ..SETTINGS
     };
     let mut state = across(ConnState::new(alloc, RawWire, settings)?);
     check_asked(rt, &mut state, 1, GRANTED);
@@ -243,15 +248,7 @@ fn an_empty_reply_is_a_mismatch(rt: HostRuntime) -> Result<(), Fail> {
 #[test]
 fn a_full_journal_closes_the_table(rt: HostRuntime) -> Result<(), Fail> {
     let alloc = rt.alloc();
-    let settings = Settings {
-        references: 2,
-        window: 8,
-        share: 1,
-        journal: 64,
-        lease_ms: 60000,
-        wait_ms: 60000,
-    };
-    let mut state = ConnState::new(alloc, RawWire, settings)?;
+    let mut state = ConnState::new(alloc, RawWire, SETTINGS)?;
     check_asked(&rt, &mut state, 1, GRANTED);
     for id in 1u64..21 {
         let reference = if id % 2 == 1 { 1 } else { 2 };
@@ -283,12 +280,10 @@ fn a_full_journal_closes_the_table(rt: HostRuntime) -> Result<(), Fail> {
 #[test]
 fn at_most_64_wait(rt: HostRuntime) -> Result<(), Fail> {
     let settings = Settings {
-        references: 2,
-        window: 8,
-        share: 1,
         journal: 256,
         lease_ms: 100,
         wait_ms: 50,
+        ..SETTINGS
     };
     let mut state = ConnState::new(rt.alloc(), RawWire, settings)?;
     check_asked(&rt, &mut state, 1, GRANTED);
@@ -311,11 +306,8 @@ fn at_most_1024_rows_are_kept(rt: HostRuntime) -> Result<(), Fail> {
     let alloc = rt.alloc();
     let settings = Settings {
         references: 2000,
-        window: 8,
-        share: 1,
         journal: 262144,
-        lease_ms: 60000,
-        wait_ms: 60000,
+        ..SETTINGS
     };
     let mut state = ConnState::new(alloc, RawWire, settings)?;
     check_asked(&rt, &mut state, 1, GRANTED);
@@ -332,15 +324,7 @@ fn at_most_1024_rows_are_kept(rt: HostRuntime) -> Result<(), Fail> {
 #[test]
 fn a_frame_that_cannot_be_read_closes_the_table(rt: HostRuntime) -> Result<(), Fail> {
     let alloc = rt.alloc();
-    let settings = Settings {
-        references: 2,
-        window: 8,
-        share: 1,
-        journal: 64,
-        lease_ms: 60000,
-        wait_ms: 60000,
-    };
-    let mut state = ConnState::new(alloc, RawWire, settings)?;
+    let mut state = ConnState::new(alloc, RawWire, SETTINGS)?;
     check_asked(&rt, &mut state, 1, GRANTED);
     let why = FrameWhy::Length { got: 3 };
     let reason = Reason::Undecodable { index: 0, why };
@@ -368,12 +352,8 @@ fn a_frame_that_cannot_be_read_closes_the_table(rt: HostRuntime) -> Result<(), F
 fn a_full_window_and_another_caller(rt: HostRuntime) -> Result<(), Fail> {
     let alloc = rt.alloc();
     let settings = Settings {
-        references: 2,
         window: 1,
-        share: 1,
-        journal: 64,
-        lease_ms: 60000,
-        wait_ms: 60000,
+        ..SETTINGS
     };
     let mut state = ConnState::new(alloc, RawWire, settings)?;
     check_asked(&rt, &mut state, 2, GRANTED);

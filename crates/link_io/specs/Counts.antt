@@ -1,14 +1,14 @@
 -- Counts that never fall: of faults, and of the times that an end was met.
-use Rattle.std.specs.Prelude.{ℕ, ◌≡◌, ◌+◌, ◌<◌, min}
+use Rattle.std.specs.Prelude.{ℕ, ◌≡◌, ◌+◌, ◌<◌, min, max}
 use Rattle.std.proofs.Common.{arith}
 
 -- the greatest count, where a count stands still
 abbrev pub top : ℕ
 top = 18446744073709551615
 
--- the count after one more
+-- the count after one more; it never falls
 abbrev pub next : ℕ → ℕ
-next count = min (count + 1) top
+next count = max count (min (count + 1) top)
 
 -- the count rose, by one; at the top it stands still
 abbrev pub Rose : ℕ → ℕ → Type 0

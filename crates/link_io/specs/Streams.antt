@@ -8,6 +8,24 @@ pub record Tape : Type 0 where
   pub given : List ℕ
   pub left : List ℕ
 
+-- What a source shows at one moment: its tape, where it tells it, and how often a read has met its end and has failed.
+pub record SourceSeen : Type 0 where
+  pub tape : Option Tape
+  pub ends : ℕ
+  pub faults : ℕ
+
+-- What a sink shows at one moment: the bytes that it holds, where it tells them, and how often a call has failed or a write
+-- has taken no byte.
+pub record SinkSeen : Type 0 where
+  pub held : Option (List ℕ)
+  pub faults : ℕ
+
+-- What a shelf shows at one moment: the bytes of the file of each name, where it tells them, and how often a call that gave
+-- this name has failed.
+pub record ShelfSeen : Type 0 where
+  pub file : List ℕ → Option (List ℕ)
+  pub faults : List ℕ → ℕ
+
 -- the tape after these bytes were given; a source that doesn't tell goes on so
 abbrev pub after_giving : List ℕ → Option Tape → Option Tape
 after_giving bytes None = None

@@ -79,11 +79,9 @@ impl<R: Files> FileShelf<R> {
 }
 
 impl<R: Files> Shelf for FileShelf<R> {
-    ghost faults = { λ faults _. faults };
+    ghost seen = { λ faults. record { file = λ _. None; faults = λ _. faults } };
 
     ghost counts_with = { λ _ _. Unit {0} };
-
-    ghost file = { λ _ _. None };
 
     fn read_at(&mut self, name: &str, from: u64, to: &mut [u8]) -> Result<usize, Failed> {
         match self.try_read(name, from, to) {

@@ -76,11 +76,9 @@ impl MemShelf {
 }
 
 impl Shelf for MemShelf {
-    ghost faults = { faults_of };
+    ghost seen = { λ shelf. record { file = file_of shelf.files; faults = faults_of shelf } };
 
     ghost counts_with = { λ one other. place_of one ≡ place_of other };
-
-    ghost file = { λ shelf name. file_of shelf.files name };
 
     fn read_at(&mut self, name: &str, from: u64, to: &mut [u8]) -> Result<usize, Failed>
         requires { 0 < length to.old }

@@ -4,12 +4,12 @@ ghost use Rattle.link_io.specs.Memory.{NextFails, write_count, after_write, afte
 use crate::calls::Calls;
 use crate::counts::Count;
 use crate::traits::{Failed, Sink};
-use std::alloc::Global;
+use std::alloc::{AllocError, Global};
 use std::marker::Model;
 
-/// A stream that keeps in memory what is put. It can be made to take it in small pieces, to take only so
-/// many bytes in all, and to fail at the calls whose numbers, from 1, are in a list. Writes and flushes are
-/// numbered together. A write that finds no memory fails too.
+/// A stream that keeps in memory what is put, so many bytes at most. It can be made to take them in small
+/// pieces, and to fail at the calls whose numbers, from 1, are in a list. Writes and flushes are numbered
+/// together.
 #[derive(Debug, Drop)]
 pub struct MemSink {
     held: Vec<u8>,
@@ -21,6 +21,7 @@ pub struct MemSink {
 
 impl Model for MemSink {
     ghost use Rattle.std.specs.Prelude.{◌<◌, ◌≤◌, vec_len};
+    ghost use Rattle.std.specs.Vec.{vec_capacity};
     ghost use Rattle.link_io.specs.Memory.{SinkState};
 
     ghost Value = { SinkState };
@@ -33,34 +34,25 @@ impl Model for MemSink {
       faults = sink.faults;
     } };
 
-    ghost invariant = { λ sink. (vec_len sink.held ≤ sink.room) × (0 < sink.piece) };
+    ghost invariant = { λ sink. (vec_len sink.held ≤ sink.room) × (sink.room ≤ vec_capacity sink.held) × (0 < sink.piece) };
 }
 
 impl MemSink {
-    /// A sink that takes whatever finds memory. To make it takes none.
-    pub fn new(alloc: Global, fails: Vec<u64>) -> MemSink
-        ensures held { result.held ≡ [] }
-        ensures limits { (result.room ≡ usize.MAX) × (result.piece ≡ usize.MAX) }
-        ensures calls { result.calls ≡ record { made = 0; failing = fails.items } }
-        ensures faults { result.faults ≡ 0 }
+    /// A sink that holds at most so many bytes, for which it takes the room. Where it holds them, a write
+    /// answers 0.
+    pub fn new(alloc: Global, room: usize, fails: Vec<u64>) -> Result<MemSink, AllocError>
+        ensures held { IfOk result (λ sink. sink.held ≡ []) }
+        ensures limits { IfOk result (λ sink. (sink.room ≡ room) × (sink.piece ≡ usize.MAX)) }
+        ensures calls { IfOk result (λ sink. sink.calls ≡ record { made = 0; failing = fails.items }) }
+        ensures faults { IfOk result (λ sink. sink.faults ≡ 0) }
     {
-        MemSink::with_room(alloc, usize::MAX, fails)
-    }
-
-    /// A sink that holds at most so many bytes. Where it holds them, a write answers 0.
-    pub fn with_room(alloc: Global, room: usize, fails: Vec<u64>) -> MemSink
-        ensures held { result.held ≡ [] }
-        ensures limits { (result.room ≡ room) × (result.piece ≡ usize.MAX) }
-        ensures calls { result.calls ≡ record { made = 0; failing = fails.items } }
-        ensures faults { result.faults ≡ 0 }
-    {
-        MemSink {
-            held: Vec::new(alloc),
+        Ok(MemSink {
+            held: Vec::with_capacity(alloc, room)?,
             room,
             piece: usize::MAX,
             calls: Calls::new(fails),
             faults: Count::new(),
-        }
+        })
     }
 
     /// The same sink, of which no write takes more than so many bytes.
@@ -89,13 +81,11 @@ impl MemSink {
 }
 
 impl Sink for MemSink {
-    ghost faults = { λ sink. sink.faults };
-
-    ghost held = { λ sink. Some sink.held };
+    ghost seen = { λ sink. record { held = Some sink.held; faults = sink.faults } };
 
     fn write(&mut self, from: &[u8]) -> Result<usize, Failed>
         requires { 0 < length from.now }
-        ensures fails { NextFails self.old.calls → IsErr result }
+        ensures fails { IsErr result ↔ NextFails self.old.calls }
         ensures how_many { IfOk result (λ n. n ≡ write_count self.old (length from.now)) }
         ensures ok { IfOk result (λ n. self.new ≡ after_write self.old (take n from.now)) }
         ensures err { OnErr result (self.new ≡ after_failed_call self.old) }
@@ -106,10 +96,7 @@ impl Sink for MemSink {
             return Err(Failed);
         }
         let count = from.len().min(self.room - self.held.len()).min(self.piece);
-        if self.held.extend_from_slice(&from[..count]).is_err() {
-            self.faults.rise();
-            return Err(Failed);
-        }
+        self.held.extend_from_slice(&from[..count]).unwrap();
         if count == 0 {
             self.faults.rise();
         }

@@ -90,11 +90,7 @@ impl MemSource {
 }
 
 impl Source for MemSource {
-    ghost faults = { λ source. source.faults };
-
-    ghost ends = { λ source. source.ends };
-
-    ghost told = { λ source. Some source.tape };
+    ghost seen = { λ source. record { tape = Some source.tape; ends = source.ends; faults = source.faults } };
 
     fn read(&mut self, to: &mut [u8]) -> Result<usize, Failed>
         requires { 0 < length to.old }

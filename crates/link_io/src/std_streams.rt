@@ -49,11 +49,7 @@ impl<R> StdSource<R> {
 }
 
 impl<R: Read> Source for StdSource<R> {
-    ghost faults = { λ source. source.faults };
-
-    ghost ends = { λ source. source.ends };
-
-    ghost told = { λ _. None };
+    ghost seen = { λ source. record { tape = None; ends = source.ends; faults = source.faults } };
 
     fn read(&mut self, to: &mut [u8]) -> Result<usize, Failed> {
         match read_retrying(&mut self.reader, to) {
@@ -105,9 +101,7 @@ impl<W> StdSink<W> {
 }
 
 impl<W: Write> Sink for StdSink<W> {
-    ghost faults = { λ faults. faults };
-
-    ghost held = { λ _. None };
+    ghost seen = { λ faults. record { held = None; faults = faults } };
 
     fn write(&mut self, from: &[u8]) -> Result<usize, Failed> {
         match write_retrying(&mut self.writer, from) {

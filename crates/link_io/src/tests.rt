@@ -18,11 +18,11 @@ enum Stopped {
 
 /// Reads to the end.
 fn read_whole<S: Source>(alloc: Global, input: &mut S) -> Result<Vec<u8>, Stopped>
-    ensures told { IfOk result (λ bytes. S.told input.new ≡ after_giving bytes.items (S.told input.old)) }
-    ensures all { IfOk result (λ bytes. AreAllLeft bytes.items (S.told input.old)) }
-    ensures ended { OnOk result (Rose (S.ends input.old) (S.ends input.new)) }
-    ensures no_fault { OnOk result (S.faults input.new ≡ S.faults input.old) }
-    ensures fault { result ≡ Err Stopped.ByFault → Rose (S.faults input.old) (S.faults input.new) }
+    ensures told { IfOk result (λ bytes. (S.seen input.new).tape ≡ after_giving bytes.items ((S.seen input.old).tape)) }
+    ensures all { IfOk result (λ bytes. AreAllLeft bytes.items ((S.seen input.old).tape)) }
+    ensures ended { OnOk result (Rose ((S.seen input.old).ends) ((S.seen input.new).ends)) }
+    ensures no_fault { OnOk result ((S.seen input.new).faults ≡ (S.seen input.old).faults) }
+    ensures fault { result ≡ Err Stopped.ByFault → Rose ((S.seen input.old).faults) ((S.seen input.new).faults) }
 {
     let mut bytes = Vec::new(alloc);
     for _turn in 0..100u32 {
@@ -42,9 +42,9 @@ fn read_whole<S: Source>(alloc: Global, input: &mut S) -> Result<Vec<u8>, Stoppe
 
 /// Puts all bytes and hands them on.
 fn write_whole<K: Sink>(output: &mut K, bytes: &[u8]) -> Result<(), Stopped>
-    ensures held { OnOk result (K.held output.new ≡ after_taking bytes.now (K.held output.old)) }
-    ensures no_fault { OnOk result (K.faults output.new ≡ K.faults output.old) }
-    ensures fault { result ≡ Err Stopped.ByFault → Rose (K.faults output.old) (K.faults output.new) }
+    ensures held { OnOk result ((K.seen output.new).held ≡ after_taking bytes.now ((K.seen output.old).held)) }
+    ensures no_fault { OnOk result ((K.seen output.new).faults ≡ (K.seen output.old).faults) }
+    ensures fault { result ≡ Err Stopped.ByFault → Rose ((K.seen output.old).faults) ((K.seen output.new).faults) }
 {
     let mut put = 0;
     for _turn in 0..100u32 {
@@ -65,12 +65,12 @@ fn write_whole<K: Sink>(output: &mut K, bytes: &[u8]) -> Result<(), Stopped>
 
 /// Reads a file from its first byte to its end.
 fn read_file<S: Shelf>(alloc: Global, shelf: &mut S, name: &str) -> Result<Vec<u8>, Stopped>
-    ensures content { IfOk result (λ bytes. IfSome (S.file shelf.old name.now) (λ whole. whole ≡ bytes.items)) }
-    ensures no_fault { OnOk result ((other : List ℕ) → S.faults shelf.new other ≡ S.faults shelf.old other) }
+    ensures content { IfOk result (λ bytes. IfSome ((S.seen shelf.old).file name.now) (λ whole. whole ≡ bytes.items)) }
+    ensures no_fault { OnOk result ((other : List ℕ) → (S.seen shelf.new).faults other ≡ (S.seen shelf.old).faults other) }
     ensures fault { result ≡ Err Stopped.ByFault
-        → Rose (S.faults shelf.old name.now) (S.faults shelf.new name.now) }
+        → Rose ((S.seen shelf.old).faults name.now) ((S.seen shelf.new).faults name.now) }
     ensures others { (other : List ℕ) → (S.counts_with name.now other → ⊥)
-        → S.faults shelf.new other ≡ S.faults shelf.old other }
+        → (S.seen shelf.new).faults other ≡ (S.seen shelf.old).faults other }
 {
     let mut bytes = Vec::new(alloc);
     for _turn in 0..100u32 {
@@ -123,7 +123,7 @@ fn a_source_in_memory_fails_at_a_call(rt: HostRuntime) -> Result<(), Fail> {
 #[test]
 fn a_sink_in_memory_takes_pieces(rt: HostRuntime) -> Result<(), Fail> {
     let alloc = rt.alloc();
-    let mut sink = MemSink::new(alloc, Vec::new(alloc)).in_pieces(2);
+    let mut sink = MemSink::new(alloc, 9, Vec::new(alloc))?.in_pieces(2);
     assert_eq!(rt; write_whole(&mut sink, b"01234"), Ok(()));
     assert_eq!(rt; sink.bytes(), b"01234".as_slice());
     assert_eq!(rt; sink.faults(), 0);
@@ -135,7 +135,7 @@ fn a_sink_in_memory_fails_at_a_call_and_past_its_room(rt: HostRuntime) -> Result
     let alloc = rt.alloc();
     // Writes of two bytes and then the flush: five bytes are put by the third call.
     for (room, fails, held) in [(9, 2, 2), (9, 4, 5), (3, 9, 3), (0, 9, 0)] {
-        let mut sink = MemSink::with_room(alloc, room, vec![in alloc; fails]?).in_pieces(2);
+        let mut sink = MemSink::new(alloc, room, vec![in alloc; fails]?)?.in_pieces(2);
         assert_eq!(rt;
             write_whole(&mut sink, b"01234"),
             Err(Stopped::ByFault),

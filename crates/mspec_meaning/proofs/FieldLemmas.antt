@@ -56,7 +56,7 @@ pub fails_at : (fields : List Field) (i : ℕ) (field : Field) (at : ℕ) (bits 
 fails_at fields i field at bits parts fault next read before =
     before (Err fault) (subst (λ (fs : List Field). FieldsRead None fs at bits (Err fault)) (sym next) (inl read))
 
-width_reads : (body : Body-F Body Case Field) (width at : ℕ) (bits : List Bool) (outcome : Result Part Fault) → HasWidth body width → number_read Big width at bits ≡ outcome → BodyReads body Big at bits outcome
+width_reads : (body : Body-F Body Case Field) (width at : ℕ) (bits : List Bool) (outcome : Result Part Fault) → HasWidth body width → number_read Big width at bits ≡ outcome → BodyReads body None None at bits outcome
 width_reads (Simple (Plain (Uint written))) width at bits outcome h e =
     sym e ∙ ap (λ w. number_read Big w at bits) (sym h.0)
 width_reads other width at bits outcome h e = absurd h

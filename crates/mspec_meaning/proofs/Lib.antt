@@ -1,4 +1,5 @@
 pub mod FieldLemmas
 pub mod NumberLemmas
 pub mod OneOutcome
+pub mod OneStream
 pub mod TotalLaws

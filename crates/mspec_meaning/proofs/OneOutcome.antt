@@ -21,13 +21,13 @@ use Rattle.mspec_meaning.specs.Reads.{Reads, DefReads, BodyReads, FieldReads, Fi
 
 -- ---- one outcome
 
-one_body : (body : Body-F Body Case Field) (order : ByteOrder) (at : ℕ) (bits : List Bool) (one other : Result Part Fault) → BodyReads body order at bits one → BodyReads body order at bits other → one ≡ other
-one_body (Simple (Plain (Uint width))) order at bits one other h k = h ∙ sym k
-one_body rest order at bits one other h k = absurd h
+one_body : (body : Body-F Body Case Field) (own above : Option ByteOrder) (at : ℕ) (bits : List Bool) (one other : Result Part Fault) → BodyReads body own above at bits one → BodyReads body own above at bits other → one ≡ other
+one_body (Simple (Plain (Uint width))) own above at bits one other h k = h ∙ sym k
+one_body rest own above at bits one other h k = absurd h
 
 one_field : (above : Option ByteOrder) (field : Field) (at : ℕ) (bits : List Bool) (one other : Result Part Fault) → FieldReads above field at bits one → FieldReads above field at bits other → one ≡ other
 one_field above field at bits one other h k =
-    one_body (out-Body (out-Field field).body) (order_of (out-Field field).order above) at bits one other h k
+    one_body (out-Body (out-Field field).body) (out-Field field).order above at bits one other h k
 
 one_part : (above : Option ByteOrder) (field : Field) (at : ℕ) (bits : List Bool) (one other : Part) → FieldReads above field at bits (Ok one) → FieldReads above field at bits (Ok other) → one ≡ other
 one_part above field at bits one other h k = cc (one_field above field at bits (Ok one) (Ok other) h k)
@@ -109,8 +109,8 @@ same_def found other h = cc
 pub one_outcome : (d : Description) (def : ℕ) (args : List ℤ) (bits : List Bool) (one other : Result Reading Fault) → Reads d def args bits one → Reads d def args bits other → one ≡ other
 one_outcome d def args bits one other h k =
     let same = same_def h.0 k.0 (sym h.1 ∙ k.1) in
-    one_def h.0.order h.0.body bits one other h.2
-    (subst (λ (found : Def). DefReads found.order found.body bits other) (sym same) k.2)
+    one_def h.0.order h.0.body bits one other h.4
+    (subst (λ (found : Def). DefReads found.order found.body bits other) (sym same) k.4)
 
 -- ---- more bits
 
@@ -145,21 +145,23 @@ number_refused order width at bits more bit why h =
     let is = is_refused (ltb bit_limit (at + width)) (ltb (length bits) (at + width)) at (number_part (number order (take width (drop at bits))) width at) bit why h in
     rw (is.0, is.1, is.2) refl
 
-body_more : (body : Body-F Body Case Field) (order : ByteOrder) (at : ℕ) (bits more : List Bool) (part : Part) → BodyReads body order at bits (Ok part) → BodyReads body order at (bits ++ more) (Ok part)
-body_more (Simple (Plain (Uint width))) order at bits more part h = number_more order width at bits more part h
-body_more rest order at bits more part h = absurd h
+body_more : (body : Body-F Body Case Field) (own above : Option ByteOrder) (at : ℕ) (bits more : List Bool) (part : Part) → BodyReads body own above at bits (Ok part) → BodyReads body own above at (bits ++ more) (Ok part)
+body_more (Simple (Plain (Uint width))) own above at bits more part h =
+    number_more (order_of own above width) width at bits more part h
+body_more rest own above at bits more part h = absurd h
 
-body_refused : (body : Body-F Body Case Field) (order : ByteOrder) (at : ℕ) (bits more : List Bool) (bit : ℕ) (why : ReadWhy) → BodyReads body order at bits (Err (Bad bit why)) → BodyReads body order at (bits ++ more) (Err (Bad bit why))
-body_refused (Simple (Plain (Uint width))) order at bits more bit why h = number_refused order width at bits more bit why h
-body_refused rest order at bits more bit why h = absurd h
+body_refused : (body : Body-F Body Case Field) (own above : Option ByteOrder) (at : ℕ) (bits more : List Bool) (bit : ℕ) (why : ReadWhy) → BodyReads body own above at bits (Err (Bad bit why)) → BodyReads body own above at (bits ++ more) (Err (Bad bit why))
+body_refused (Simple (Plain (Uint width))) own above at bits more bit why h =
+    number_refused (order_of own above width) width at bits more bit why h
+body_refused rest own above at bits more bit why h = absurd h
 
 field_more : (above : Option ByteOrder) (field : Field) (at : ℕ) (bits more : List Bool) (part : Part) → FieldReads above field at bits (Ok part) → FieldReads above field at (bits ++ more) (Ok part)
 field_more above field at bits more part h =
-    body_more (out-Body (out-Field field).body) (order_of (out-Field field).order above) at bits more part h
+    body_more (out-Body (out-Field field).body) (out-Field field).order above at bits more part h
 
 field_refused : (above : Option ByteOrder) (field : Field) (at : ℕ) (bits more : List Bool) (bit : ℕ) (why : ReadWhy) → FieldReads above field at bits (Err (Bad bit why)) → FieldReads above field at (bits ++ more) (Err (Bad bit why))
 field_refused above field at bits more bit why h =
-    body_refused (out-Body (out-Field field).body) (order_of (out-Field field).order above) at bits more bit why h
+    body_refused (out-Body (out-Field field).body) (out-Field field).order above at bits more bit why h
 
 fields_more : (above : Option ByteOrder) (fields : List Field) (at : ℕ) (bits more : List Bool) (parts : List Part) → FieldsRead above fields at bits (Ok parts) → FieldsRead above fields at (bits ++ more) (Ok parts)
 fields_more above [] at bits more parts h = h
@@ -182,7 +184,9 @@ def_refused order (PlainFields fields) bits more bit why h = fields_refused orde
 def_refused order rest bits more bit why h = absurd h
 
 pub same_reading : (d : Description) (def : ℕ) (args : List ℤ) (bits more : List Bool) (reading : Reading) → Reads d def args bits (Ok reading) → Reads d def args (bits ++ more) (Ok reading)
-same_reading d def args bits more reading h = (h.0, h.1, def_more h.0.order h.0.body bits more reading h.2)
+same_reading d def args bits more reading h =
+    (h.0, h.1, h.2, h.3, def_more h.0.order h.0.body bits more reading h.4)
 
 pub same_refusal : (d : Description) (def : ℕ) (args : List ℤ) (bits more : List Bool) (bit : ℕ) (why : ReadWhy) → Reads d def args bits (Err (Bad bit why)) → Reads d def args (bits ++ more) (Err (Bad bit why))
-same_refusal d def args bits more bit why h = (h.0, h.1, def_refused h.0.order h.0.body bits more bit why h.2)
+same_refusal d def args bits more bit why h =
+    (h.0, h.1, h.2, h.3, def_refused h.0.order h.0.body bits more bit why h.4)

@@ -1,4 +1,4 @@
--- Each value of a plain type, and each stream of them, has exactly one outcome.
+-- Each value of a plain type, and each stream of them, has an outcome.
 use Rattle.std.proofs.Common.{◌≡◌, ◌≢◌, ℕ, ℤ, zero, suc, ◌+◌, ◌%◌, ◌<◌, ◌≤◌, ◌⊎◌, Bool, List, [], ◌∷◌, length, drop, None, Result, Ok, Err, refl, sym, subst, inl, inr, arith}
 use Rattle.std.proofs.lemmas.List.{length-drop}
 use Rattle.node_tree.specs.declared.readings.Reading.{Reading}
@@ -43,7 +43,7 @@ def_outcome other plain bits = absurd plain
 pub some_outcome : (d : Description) (def : ℕ) (args : List ℤ) → CanRead d def args → (bits : List Bool) → (outcome : Result Reading Fault) × Reads d def args bits outcome
 some_outcome d def args can bits =
     let read = def_outcome can.0.body can.5 bits in
-    (read.0, (can.0, can.1, subst (λ order. DefReads order can.0.body bits read.0) (sym can.4) read.1))
+    (read.0, (can.0, can.1, can.2, can.3, subst (λ order. DefReads order can.0.body bits read.0) (sym can.4) read.1))
 
 -- ---- streams
 

@@ -1,6 +1,6 @@
 -- What bits mean by a description: a clause for each kind of field, over the syntax tree and all bits of the
 -- value. So far the simple fields of unsigned numbers have theirs.
-use Rattle.std.specs.Prelude.{ℕ, ℤ, pos, ◌≡◌, ◌+◌, ◌⊎◌, Bool, List, [], ◌∷◌, length, take, drop, map, Option, Some, None, Result, Ok, Err, nat_lt, if◌then◌else◌, slice_get}
+use Rattle.std.specs.Prelude.{ℕ, ℤ, pos, ◌≡◌, ◌+◌, ◌%◌, ◌==◌, ◌⊎◌, Bool, List, [], ◌∷◌, length, take, drop, map, Option, Some, None, Result, Ok, Err, nat_lt, if◌then◌else◌, slice_get}
 use Rattle.std.specs.List.{flat_map}
 use Rattle.node_tree.specs.Bits.{big_number, little_number}
 use Rattle.node_tree.specs.declared.nodes.Node.{Node}
@@ -56,20 +56,22 @@ number_read order width at bits =
     then Err Short
     else Ok (number_part (number order (take width (drop at bits))) width at)
 
--- a field's order of bytes: its own, else its definition's, else the most significant byte first
-abbrev pub order_of : (own above : Option ByteOrder) → ByteOrder
-order_of (Some order) above = order
-order_of None (Some order) = order
-order_of None None = Big
+-- the order of bytes of a field of so many bits: its own, else its definition's where the bits are whole bytes,
+-- else the most significant byte first
+abbrev pub order_of : (own above : Option ByteOrder) (width : ℕ) → ByteOrder
+order_of (Some order) above width = order
+order_of None (Some order) width = if width % 8 == 0 then order else Big
+order_of None None width = Big
 
--- what stands in a field at this position of the value
-abbrev pub BodyReads : Body-F Body Case Field → ByteOrder → (at : ℕ) → List Bool → Result Part Fault → Type 0
-BodyReads (Simple (Plain (Uint width))) order at bits outcome = outcome ≡ number_read order width at bits
-BodyReads other order at bits outcome = ⊥
+-- what stands in a field at this position of the value, by the orders of bytes of the field and of its definition
+abbrev pub BodyReads : Body-F Body Case Field → (own above : Option ByteOrder) → (at : ℕ) → List Bool → Result Part Fault → Type 0
+BodyReads (Simple (Plain (Uint width))) own above at bits outcome =
+    outcome ≡ number_read (order_of own above width) width at bits
+BodyReads other own above at bits outcome = ⊥
 
 abbrev pub FieldReads : Option ByteOrder → Field → (at : ℕ) → List Bool → Result Part Fault → Type 0
 FieldReads above field at bits outcome =
-    BodyReads (out-Body (out-Field field).body) (order_of (out-Field field).order above) at bits outcome
+    BodyReads (out-Body (out-Field field).body) (out-Field field).order above at bits outcome
 
 -- fields one after another from this position on, up to the first that isn't there
 abbrev pub FieldsRead : Option ByteOrder → List Field → (at : ℕ) → List Bool → Result (List Part) Fault → Type 0
@@ -101,7 +103,12 @@ DefReads order (PlainFields fields) bits (Ok reading) =
 DefReads order (PlainFields fields) bits (Err fault) = FieldsRead order fields 0 bits (Err fault)
 DefReads order other bits outcome = ⊥
 
--- the value of the definition at this place with these arguments, at the front of the bits
+-- the value of the definition at this place with these arguments, at the front of the bits. So far a definition
+-- with parameters has none, and arguments have no meaning.
 abbrev pub Reads : Description → (def : ℕ) → (args : List ℤ) → List Bool → Result Reading Fault → Type 0
 Reads d def args bits outcome =
-    (found : Def) × (slice_get d.defs def ≡ Some found) × DefReads found.order found.body bits outcome
+    (found : Def)
+    × (slice_get d.defs def ≡ Some found)
+    × (found.params ≡ [])
+    × (args ≡ [])
+    × DefReads found.order found.body bits outcome

@@ -3,7 +3,11 @@
 
 mod laws;
 mod numbers;
+mod readable;
 mod reading;
+#[cfg(test)]
+mod tests;
 
-pub use laws::{more_bits, one_reading};
+pub use laws::{more_bits, one_reading, one_stream, some_reading};
+pub use readable::can_read;
 pub use reading::read_plain;

@@ -81,8 +81,8 @@ fn read_fields(alloc: Global, fields: &[Field], bytes: &[u8]) -> Result<Reading,
 
 /// Reads the definition at the place `def` at the front of the bytes. Bytes may follow the value.
 ///
-/// The definition must be one that can be read so far: a type without parameters whose fields are unsigned
-/// numbers of 8, 16, 32 or 64 bits. A fault's bit counts from the first byte.
+/// The definition must be one that can be read so far, as `can_read` tells. A fault's bit counts from the first
+/// byte.
 pub fn read_plain(
     alloc: Global,
     d: &Description,

@@ -25,7 +25,7 @@ spelled_behind above (bit ∷ bits) = spelled_behind (2 * above + digit bit) bit
 abbrev pub big_number : List Bool → ℕ
 big_number bits = spelled_behind 0 bits
 
--- the groups of eight bits in reverse order; bits that are no whole group stand at the end
+-- the groups of eight bits in reverse order; bits that are no whole group stand in front
 abbrev pub groups_reversed : List Bool → List Bool
 groups_reversed (a ∷ b ∷ c ∷ d ∷ e ∷ f ∷ g ∷ h ∷ bits) =
     groups_reversed bits ++ a ∷ b ∷ c ∷ d ∷ e ∷ f ∷ g ∷ h ∷ []

@@ -5,6 +5,8 @@ mod faults;
 mod lists;
 mod nodes;
 mod readings;
+#[cfg(test)]
+mod tests;
 
 pub use faults::{EvalFault, ReadFault, ReadWhy, WriteFault, WriteWhy};
 pub use lists::OwnedList;

@@ -1,7 +1,7 @@
 use crate::lists::OwnedList;
 use sqlite_items::Items;
 
-/// Bytes, or a name, that contracts see as a list of numbers below 256.
+/// Bytes that contracts see as a list of numbers below 256.
 pub type ByteList = OwnedList<u8>;
 
 /// The entries of a node.

@@ -9,7 +9,7 @@ use Rattle.std.proofs.lemmas.Slice.Eq.{bytes_eq-Decides}
 use Rattle.std.proofs.lemmas.Option.{option_and_then_some}
 use Rattle.plchost.specs.FirstForm.{IsName, Token, Open, Close, Word, BeginsWith, PlainField, names_of, Differ, AreFields, field_tokens}
 use Rattle.plchost.specs.declared.plain_types.ReadField.{ReadField}
-use Rattle.plchost.specs.Reading.{seen, symbol_of, keyword_of, name_of, number_of, field_of, head_of, then_close, AreAllFields}
+use Rattle.plchost.specs.FormReaders.{seen, symbol_of, keyword_of, name_of, number_of, field_of, head_of, then_close, AreAllFields}
 use Rattle.plchost.proofs.TokenLaws.{open-sound, open-complete, close-sound, close-complete, open_or_close, keyword-sound, keyword-complete, false_unless, name-sound, name-complete, number-sound, number-complete}
 
 pub none_or_some : {A : Type 0} (x : A) → ◌≡◌ {A = Option A} None (Some x) → ⊥

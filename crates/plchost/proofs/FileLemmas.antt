@@ -4,6 +4,7 @@ use Rattle.std.specs.Option.{IfSome}
 use Rattle.std.proofs.lemmas.List.{take_all, length-take}
 use Rattle.mspec_tree.specs.declared.defs.Description.{Description}
 use Rattle.link_io.specs.Counts.{Rose}
+use Rattle.link_io.specs.Streams.{ShelfSeen}
 use Rattle.plchost.specs.declared.files.FileFault.{FileFault}
 use Rattle.plchost.specs.declared.files.FileFault.TheVariants.{Failed, NoMemory}
 use Rattle.plchost.specs.declared.plain_types.FormFault.{FormFault}
@@ -12,7 +13,7 @@ use Rattle.plchost.specs.declared.plain_types.FormFault.TheVariants as forms
 use Rattle.plchost.specs.Preparing.{ComesToRefusal, from_file, from_form}
 use Rattle.plchost.specs.FirstForm.{FirstForm}
 use Rattle.plchost.specs.Tool.{AreDecode}
-use Rattle.plchost.specs.Runs.{FileSeen, ShelfSeen}
+use Rattle.plchost.specs.Runs.{FileSeen, FileTaken}
 use Rattle.plchost.proofs.WordLemmas.{one_decode}
 
 -- the front of a file that is within the limit is the file
@@ -35,27 +36,27 @@ pub some_seen : (told : Option (List ℕ)) → (seen : List ℕ) × IfSome told 
 some_seen None = ([], tt)
 some_seen (Some bytes) = (bytes, refl)
 
-pub seen_by : (words : List (List ℕ)) (name kind : List ℕ) (faults faults' : List ℕ → ℕ) (counts_with : List ℕ → List ℕ → Type 0) (told : List ℕ → Option (List ℕ)) (file : Option (List ℕ)) → AreDecode words name kind → FileSeen name faults faults' (told name) file → ((other : List ℕ) → (counts_with name other → ⊥) → faults' other ≡ faults other) → ShelfSeen words faults faults' counts_with told file
-seen_by words name kind faults faults' counts_with told file decode seen others =
+pub seen_by : (words : List (List ℕ)) (name kind : List ℕ) (counts_with : List ℕ → List ℕ → Type 0) (before after : ShelfSeen) (file : Option (List ℕ)) → AreDecode words name kind → FileSeen name before after file → ((other : List ℕ) → (counts_with name other → ⊥) → after.faults other ≡ before.faults other) → FileTaken words counts_with before after file
+seen_by words name kind counts_with before after file decode seen others =
     record {
-      named = λ other type w. subst (λ (n : List ℕ). FileSeen n faults faults' (told n) file) (one_decode words name kind other type decode w).0 seen;
-      others = λ other h. others other (h name kind decode);
+      named = λ other type w. subst (λ (n : List ℕ). FileSeen n before after file) (one_decode words name kind other type decode w).0 seen;
+      others = λ other h. others other (λ together. h (name, kind, decode, together));
     }
 
 -- a fault of the file, and what was seen
-pub failed_seen : (words : List (List ℕ)) (name kind : List ℕ) (faults faults' : List ℕ → ℕ) (counts_with : List ℕ → List ℕ → Type 0) (told : List ℕ → Option (List ℕ)) (e : FileFault) → AreDecode words name kind → (e ≡ Failed → Rose (faults name) (faults' name)) → ((e ≡ Failed) ⊎ ((other : List ℕ) → faults' other ≡ faults other)) → ((other : List ℕ) → (counts_with name other → ⊥) → faults' other ≡ faults other) → (file : Option (List ℕ)) × ShelfSeen words faults faults' counts_with told file × ((taken : List ℕ) → ComesToRefusal words file taken (from_file e))
-failed_seen words name kind faults faults' counts_with told Failed decode rose kept others =
-    (None, seen_by words name kind faults faults' counts_with told None decode (rose refl) others, λ taken. (name, kind, decode, refl))
-failed_seen words name kind faults faults' counts_with told NoMemory decode rose kept others =
-    let some = some_seen (told name) in
-    let same : (other : List ℕ) → faults' other ≡ faults other = elim kept [ inl bad ↦ absurd cc | inr same ↦ same ] in
-    (Some some.0, seen_by words name kind faults faults' counts_with told (Some some.0) decode (same, some.1) others, λ taken. tt)
+pub failed_seen : (words : List (List ℕ)) (name kind : List ℕ) (counts_with : List ℕ → List ℕ → Type 0) (before after : ShelfSeen) (e : FileFault) → AreDecode words name kind → (e ≡ Failed → Rose (before.faults name) (after.faults name)) → ((e ≡ Failed) ⊎ ((other : List ℕ) → after.faults other ≡ before.faults other)) → ((other : List ℕ) → (counts_with name other → ⊥) → after.faults other ≡ before.faults other) → (file : Option (List ℕ)) × FileTaken words counts_with before after file × ComesToRefusal words file (from_file e)
+failed_seen words name kind counts_with before after Failed decode rose kept others =
+    (None, seen_by words name kind counts_with before after None decode (rose refl) others, (name, kind, decode, refl))
+failed_seen words name kind counts_with before after NoMemory decode rose kept others =
+    let some = some_seen (before.file name) in
+    let same : (other : List ℕ) → after.faults other ≡ before.faults other = elim kept [ inl bad ↦ absurd cc | inr same ↦ same ] in
+    (Some some.0, seen_by words name kind counts_with before after (Some some.0) decode (same, some.1) others, tt)
 
 -- a text outside the first form, or want of memory, and what was seen
-pub unformed_seen : (words : List (List ℕ)) (name kind text : List ℕ) (faults faults' : List ℕ → ℕ) (counts_with : List ℕ → List ℕ → Type 0) (told : List ℕ → Option (List ℕ)) (e : FormFault) → AreDecode words name kind → ((other : List ℕ) → faults' other ≡ faults other) → IfSome (told name) (λ bytes. text ≡ take 1048577 bytes) → (e ≡ NotBuilt → (d : Description) → FirstForm text d → ⊥) → (file : Option (List ℕ)) × ShelfSeen words faults faults' counts_with told file × ((taken : List ℕ) → ComesToRefusal words file taken (from_form e))
-unformed_seen words name kind text faults faults' counts_with told NotBuilt decode same front none =
-    let seen = refused_seen (told name) text front (none refl) in
-    (Some seen.0, seen_by words name kind faults faults' counts_with told (Some seen.0) decode (same, seen.1) (λ other _. same other), λ taken. (name, kind, seen.0, decode, refl, seen.2))
-unformed_seen words name kind text faults faults' counts_with told forms.NoMemory decode same front none =
-    let some = some_seen (told name) in
-    (Some some.0, seen_by words name kind faults faults' counts_with told (Some some.0) decode (same, some.1) (λ other _. same other), λ taken. tt)
+pub unformed_seen : (words : List (List ℕ)) (name kind text : List ℕ) (counts_with : List ℕ → List ℕ → Type 0) (before after : ShelfSeen) (e : FormFault) → AreDecode words name kind → ((other : List ℕ) → after.faults other ≡ before.faults other) → IfSome (before.file name) (λ bytes. text ≡ take 1048577 bytes) → (e ≡ NotBuilt → (d : Description) → FirstForm text d → ⊥) → (file : Option (List ℕ)) × FileTaken words counts_with before after file × ComesToRefusal words file (from_form e)
+unformed_seen words name kind text counts_with before after NotBuilt decode same front none =
+    let seen = refused_seen (before.file name) text front (none refl) in
+    (Some seen.0, seen_by words name kind counts_with before after (Some seen.0) decode (same, seen.1) (λ other _. same other), (name, kind, seen.0, decode, refl, seen.2))
+unformed_seen words name kind text counts_with before after forms.NoMemory decode same front none =
+    let some = some_seen (before.file name) in
+    (Some some.0, seen_by words name kind counts_with before after (Some some.0) decode (same, some.1) (λ other _. same other), tt)

@@ -5,7 +5,7 @@ use Rattle.std.specs.List.{AllByRecursion, flat_map}
 use Rattle.std.proofs.lemmas.Bool.{false≢true}
 use Rattle.mspec_tree.specs.declared.defs.Description.{Description}
 use Rattle.plchost.specs.FirstForm.{is_blank, AllBlank, Close, Begins, BeginsWith, Tokens, PlainField, PlainType, AreFields, IsPlain, field_tokens, tokens_of, tree_of, FirstForm}
-use Rattle.plchost.specs.Reading.{front, behind, symbol_of, head_of, then_close, is_empty, is_end_at, is_end, AreAllFields}
+use Rattle.plchost.specs.FormReaders.{front, behind, symbol_of, head_of, then_close, is_empty, is_end_at, is_end, AreAllFields}
 use Rattle.plchost.proofs.Fronts.{parted, front_passes}
 use Rattle.plchost.proofs.TokenLaws.{close-sound, close-complete, open_or_close}
 use Rattle.plchost.proofs.FieldLaws.{none_or_some, begins_append, begins_split, head_tokens, head-sound, head-complete, follow, all_read}

@@ -4,7 +4,7 @@ use Rattle.std.specs.Bool.{IsTrue}
 use Rattle.std.specs.List.{prefix_len, AllByRecursion}
 use Rattle.std.proofs.lemmas.List.Sums.{prefix_len-le-length}
 use Rattle.plchost.specs.FirstForm.{StopsAt}
-use Rattle.plchost.specs.Reading.{front, behind}
+use Rattle.plchost.specs.FormReaders.{front, behind}
 
 one_more : (n : ℕ) → 1 + n ≡ suc n
 one_more n = omega arith

@@ -2,7 +2,7 @@
 use Rattle.std.proofs.Common.{◌≡◌, ◌≢◌, ℕ, ◌+◌, ◌≤◌, List, [], ◌++◌, length, Option, Some, None, inl, inr, sym, ap, ◌∙◌, subst, arith}
 use Rattle.plchost.proofs.StatusLemmas.{is_or_not}
 use Rattle.link_io.specs.Counts.{Rose}
-use Rattle.link_io.specs.Streams.{Tape, after_giving, AreNext, IsAtEnd, after_giving-nil, after_giving-append, AreNext-append}
+use Rattle.link_io.specs.Streams.{SourceSeen, Tape, after_giving, AreNext, IsAtEnd, after_giving-nil, after_giving-append, AreNext-append}
 use Rattle.plchost.specs.declared.inputs.How.{How}
 use Rattle.plchost.specs.declared.inputs.How.TheVariants.{Ended, Failed, Over}
 use Rattle.plchost.specs.Runs.{InputTaken}
@@ -15,9 +15,9 @@ pub next_more : (t0 t1 : Option Tape) (bytes piece : List ℕ) → t1 ≡ after_
 next_more t0 t1 bytes piece a next more =
     AreNext-append bytes piece t0 next (subst (λ (t : Option Tape). AreNext piece t) a more)
 
-pub taken_ended : (t0 t1 t2 : Option Tape) (e0 e2 f0 f2 : ℕ) (bytes : List ℕ) → t1 ≡ after_giving bytes t0 → t2 ≡ after_giving [] t1 → AreNext bytes t0 → IsAtEnd t1 → Rose e0 e2 → f2 ≡ f0 → length bytes ≤ 16777216 → InputTaken t0 t2 e0 e2 f0 f2 bytes (Some Ended)
-taken_ended t0 t1 t2 e0 e2 f0 f2 bytes a b next end rose same short =
-    let still = b ∙ after_giving-nil t1 in
+pub taken_ended : (s0 s1 s2 : SourceSeen) (bytes : List ℕ) → s1.tape ≡ after_giving bytes s0.tape → s2.tape ≡ after_giving [] s1.tape → AreNext bytes s0.tape → IsAtEnd s1.tape → Rose s0.ends s2.ends → s2.faults ≡ s0.faults → length bytes ≤ 16777216 → InputTaken s0 s2 bytes (Some Ended)
+taken_ended s0 s1 s2 bytes a b next end rose same short =
+    let still = b ∙ after_giving-nil s1.tape in
     record {
       given = still ∙ a;
       next = next;
@@ -25,21 +25,21 @@ taken_ended t0 t1 t2 e0 e2 f0 f2 bytes a b next end rose same short =
       left = (rose, same, short);
     }
 
-pub taken_failed : (t0 t1 t2 : Option Tape) (e0 e2 f0 f2 : ℕ) (bytes : List ℕ) → t1 ≡ after_giving bytes t0 → t2 ≡ t1 → AreNext bytes t0 → e2 ≡ e0 → Rose f0 f2 → length bytes ≤ 16777216 → InputTaken t0 t2 e0 e2 f0 f2 bytes (Some Failed)
-taken_failed t0 t1 t2 e0 e2 f0 f2 bytes a b next same rose short =
+pub taken_failed : (s0 s1 s2 : SourceSeen) (bytes : List ℕ) → s1.tape ≡ after_giving bytes s0.tape → s2.tape ≡ s1.tape → AreNext bytes s0.tape → s2.ends ≡ s0.ends → Rose s0.faults s2.faults → length bytes ≤ 16777216 → InputTaken s0 s2 bytes (Some Failed)
+taken_failed s0 s1 s2 bytes a b next same rose short =
     record { given = b ∙ a; next = next; at_end = λ e. absurd (let h : Some Failed ≡ Some Ended = e in cc); left = (same, rose, short) }
 
-pub taken_over : (t0 t1 : Option Tape) (e0 e1 f0 f1 : ℕ) (bytes : List ℕ) → t1 ≡ after_giving bytes t0 → AreNext bytes t0 → e1 ≡ e0 → f1 ≡ f0 → length bytes ≡ 16777217 → InputTaken t0 t1 e0 e1 f0 f1 bytes (Some Over)
-taken_over t0 t1 e0 e1 f0 f1 bytes a next ends faults long =
+pub taken_over : (s0 s1 : SourceSeen) (bytes : List ℕ) → s1.tape ≡ after_giving bytes s0.tape → AreNext bytes s0.tape → s1.ends ≡ s0.ends → s1.faults ≡ s0.faults → length bytes ≡ 16777217 → InputTaken s0 s1 bytes (Some Over)
+taken_over s0 s1 bytes a next ends faults long =
     record { given = a; next = next; at_end = λ e. absurd (let h : Some Over ≡ Some Ended = e in cc); left = (ends, faults, long) }
 
 -- bytes that memory was wanting for
 below : (n m : ℕ) → n ≤ m + 1 → n ≢ m + 1 → n ≤ m
 below n m most other = omega (arith, most, other)
 
-pub taken_so_far : (t0 t1 : Option Tape) (e0 e1 f0 f1 : ℕ) (bytes : List ℕ) → t1 ≡ after_giving bytes t0 → AreNext bytes t0 → e1 ≡ e0 → f1 ≡ f0 → length bytes ≤ 16777217 → (taken : List ℕ) × (how : Option How) × InputTaken t0 t1 e0 e1 f0 f1 taken how
-taken_so_far t0 t1 e0 e1 f0 f1 bytes a next ends faults most =
+pub taken_so_far : (s0 s1 : SourceSeen) (bytes : List ℕ) → s1.tape ≡ after_giving bytes s0.tape → AreNext bytes s0.tape → s1.ends ≡ s0.ends → s1.faults ≡ s0.faults → length bytes ≤ 16777217 → (taken : List ℕ) × (how : Option How) × InputTaken s0 s1 taken how
+taken_so_far s0 s1 bytes a next ends faults most =
     elim (is_or_not (length bytes) 16777217) [
-      | inl long ↦ (bytes, Some Over, taken_over t0 t1 e0 e1 f0 f1 bytes a next ends faults long)
+      | inl long ↦ (bytes, Some Over, taken_over s0 s1 bytes a next ends faults long)
       | inr other ↦ (bytes, None, record { given = a; next = next; at_end = λ e. absurd (let h : None ≡ Some Ended = e in cc); left = (ends, faults, below (length bytes) 16777216 most other) })
     ]

@@ -1,3 +1,4 @@
+pub mod EndStatus
 pub mod FieldLaws
 pub mod FileLemmas
 pub mod FormLaws
@@ -5,11 +6,14 @@ pub mod FormReads
 pub mod FrontLemmas
 pub mod Fronts
 pub mod InputLemmas
+pub mod LineLaws
 pub mod LineLemmas
 pub mod ListingLemmas
 pub mod NoRefusal
+pub mod OneSaid
 pub mod ReplyLemmas
 pub mod RunLemmas
+pub mod ScriptStatus
 pub mod StatusLemmas
 pub mod StreamLemmas
 pub mod TokenLaws

@@ -31,10 +31,10 @@ first_part p (x ∷ xs) h =
     ] h
 
 -- a list has a part at least
-some_part : (p : ℕ → Bool) (xs : List ℕ) → slice_split p xs ≡ [] → ⊥
+pub some_part : (p : ℕ → Bool) (xs : List ℕ) → slice_split p xs ≡ [] → ⊥
 some_part p xs e = absurd (omega (arith, ap length e, length-slice_split p xs))
 
-before_parts : (ended : Bool) (part : List ℕ) (parts : List (List ℕ)) → (parts ≡ [] → ⊥) → lines_among ended (part ∷ parts) ≡ part ∷ lines_among ended parts
+pub before_parts : (ended : Bool) (part : List ℕ) (parts : List (List ℕ)) → (parts ≡ [] → ⊥) → lines_among ended (part ∷ parts) ≡ part ∷ lines_among ended parts
 before_parts ended part [] some = absurd (some refl)
 before_parts ended part (next ∷ more) some = refl
 

@@ -26,7 +26,7 @@ use Rattle.plchost.specs.declared.tokens.Width.{Width}
 use Rattle.plchost.specs.declared.tokens.Width.TheVariants.{Bits8, Bits16, Bits32, Bits64}
 use Rattle.plchost.specs.FirstForm.{FirstForm, IsPlain, PlainField, PlainType, bits, field_tree, no_place, tree_of}
 use Rattle.plchost.proofs.StatusLemmas.{not_script}
-use Rattle.plchost.specs.Tool.{Names, ComesTo, Result as RunResult, WordsRefused, FileFault, NotBuilt, TypeRefused, Values, Answers, input_limit, last_said, said}
+use Rattle.plchost.specs.Tool.{Names, ComesTo, Course, WordsRefused, FileFault, NotBuilt, TypeRefused, Values, Answers, Taken, input_limit, last_said, said}
 
 -- ---- numbers
 
@@ -61,7 +61,7 @@ tested_bad false false value width at bit why test e = cc
 
 reads_is : (f : PlainField) (at : ℕ) (all : List Bool) (outcome : Result Part Fault) → FieldReads None (field_tree f) at all outcome → outcome ≡ number_read Big (bits f.width) at all
 reads_is f at all outcome read =
-    subst (λ (body : Body-F Body Case Field). BodyReads body Big at all outcome) (outs-Simple (PlainRef (Uint (bits f.width)))) read
+    subst (λ (body : Body-F Body Case Field). BodyReads body None None at all outcome) (outs-Simple (PlainRef (Uint (bits f.width)))) read
 
 field_ends : (f : PlainField) (at : ℕ) (all : List Bool) (part : Part) → FieldReads None (field_tree f) at all (Ok part) → part.end ≡ at + bits f.width
 field_ends f at all part read = tested_end _ _ _ (bits f.width) at part (reads_is f at all (Ok part) read)
@@ -102,7 +102,7 @@ def_reads : (p : PlainType) (def : ℕ) (all : List Bool) (outcome : Result Read
 def_reads p zero all outcome read =
     let only : Def = record { place = no_place; named = no_place; name = p.name; params = []; order = None; body = PlainFields (map field_tree p.fields) } in
     let same : read.0 ≡ only = cc (read.1) in
-    subst (λ (found : Def). DefReads found.order found.body all outcome) same read.2
+    subst (λ (found : Def). DefReads found.order found.body all outcome) same read.4
 def_reads p (suc n) all outcome read = absurd (omega (arith, slice_get_within (tree_of p).defs (suc n) read.0 read.1))
 
 value_size : (p : PlainType) → IsPlain p → (def : ℕ) (all : List Bool) (reading : Reading) → Reads (tree_of p) def [] all (Ok reading) → (8 ≤ reading.bits) × (reading.bits % 8 ≡ 0)
@@ -150,11 +150,11 @@ never_6 text d def kind bytes readings (Some Over) End form named stream e = abs
 never_6 text d def kind bytes readings (Some Over) (TooFew left) form named stream e = absurd (omega (arith, e))
 
 -- no run by a description in the first form has the status of a refused value
-pub no_status_6 : (words : List (List ℕ)) (file : Option (List ℕ)) (taken : List ℕ) (how : Option How) (result : RunResult) → ComesTo words file taken how result → (said how result).status ≢ 6
-no_status_6 words file taken how WordsRefused comes e = absurd (omega (arith, e))
-no_status_6 words file taken how FileFault comes e = absurd (omega (arith, e))
-no_status_6 words file taken how NotBuilt comes e = absurd (omega (arith, e))
-no_status_6 words file taken how TypeRefused comes e = absurd (omega (arith, e))
-no_status_6 words file taken how (Values d def readings ending) comes e =
-    never_6 comes.2 d def comes.1 (take input_limit taken) readings how ending comes.5 comes.6 comes.7 e
-no_status_6 words file taken how (Answers text end) comes e = not_script how end 6 refl (sym e)
+pub no_status_6 : (words : List (List ℕ)) (t : Taken) (course : Course) → ComesTo words t course → (said t.how course).status ≢ 6
+no_status_6 words t WordsRefused comes e = absurd (omega (arith, e))
+no_status_6 words t FileFault comes e = absurd (omega (arith, e))
+no_status_6 words t NotBuilt comes e = absurd (omega (arith, e))
+no_status_6 words t TypeRefused comes e = absurd (omega (arith, e))
+no_status_6 words t (Values d def readings ending) comes e =
+    never_6 comes.2 d def comes.1 (take input_limit t.bytes) readings t.how ending comes.5 comes.6 comes.7 e
+no_status_6 words t (Answers text end) comes e = not_script t.how end 6 refl (sym e)

@@ -1,17 +1,17 @@
 -- What each status tells.
-use Rattle.std.proofs.Common.{◌≡◌, ◌≢◌, ℕ, ◌==◌, ◌||◌, ◌<◌, ◌⊎◌, Bool, true, false, List, [], ◌∷◌, ◌++◌, length, codes, Option, Some, None, refl, inl, inr, sym, ap, ◌∙◌, subst, zero, suc, arith}
-use Rattle.std.specs.Prelude.{nat_lt, if◌then◌else◌}
-use Rattle.std.specs.Fmt.{decimal}
-use Rattle.std.specs.Option.{IfSome}
+use Rattle.std.proofs.Common.{◌≡◌, ◌≢◌, ℕ, ◌==◌, ◌||◌, ◌<◌, ◌⊎◌, Bool, true, false, List, [], ◌∷◌, length, codes, Option, Some, None, refl, inl, inr, sym, ap, ◌∙◌, subst, zero, suc, arith}
+use Rattle.std.specs.Prelude.{if◌then◌else◌}
 use Rattle.std.proofs.lemmas.Bool.{false≢true}
 use Rattle.mspec_meaning.specs.Stream.{Ending, End, TooFew, Refused}
 use Rattle.link_io.specs.Counts.{Rose}
+use Rattle.link_io.specs.Streams.{ShelfSeen, SourceSeen}
+use Rattle.script_lines.specs.Scripts.{must_stand}
 use Rattle.plchost.specs.declared.inputs.How.{How}
 use Rattle.plchost.specs.declared.inputs.How.TheVariants.{Ended, Failed, Over}
-use Rattle.plchost.specs.Runs.{StopsEarly, FileSeen, LeftSo}
+use Rattle.plchost.specs.Runs.{StopsEarly, FileSeen, InputTaken, LeftSo}
 use Rattle.script_replay.specs.declared.replays.ScriptEnd.{ScriptEnd}
 use Rattle.script_replay.specs.declared.replays.ScriptEnd.TheVariants.{Answered, Refused as LineRefused}
-use Rattle.plchost.specs.Tool.{AreDecode, AreReplay, AreRefused, ComesTo, Result, WordsRefused, FileFault, NotBuilt, TypeRefused, Values, Answers, IsDecided, last_said, line_refused, script_said, script_last, said}
+use Rattle.plchost.specs.Tool.{AreDecode, AreReplay, AreRefused, ComesTo, Course, Said, Taken, Tool, WordsRefused, FileFault, NotBuilt, TypeRefused, Values, Answers, IsDecided, entries_said, last_said, line_refused, script_said, script_last, said}
 
 -- the statuses of values
 abbrev is_last : ℕ → Bool
@@ -52,7 +52,7 @@ is_script s = s == 0 || s == 4 || s == 10 || s == 13
 
 said_status : (next entries : ℕ) → is_script (script_said next entries).status ≡ true
 said_status next entries =
-    elim (nat_lt next 3) as (λ v. is_script (if v then line_refused next else record { text = codes "entries " ++ decimal entries ++ codes "\n"; status = 0 }).status ≡ true)
+    elim (must_stand next) as (λ v. is_script (if v then line_refused next else entries_said entries).status ≡ true)
     [ true ↦ refl | false ↦ refl ]
 
 script_status : (how : Option How) (end : ScriptEnd) → is_script (script_last how end).status ≡ true
@@ -78,23 +78,62 @@ script_not_early how end s early e =
 
 not_said : (next entries s : ℕ) → s ≡ (script_said next entries).status → s ≢ 0 → s ≢ 10 → ⊥
 not_said next entries s e not_0 not_10 =
-    elim (nat_lt next 3) as (λ v. s ≡ (if v then line_refused next else record { text = codes "entries " ++ decimal entries ++ codes "\n"; status = 0 }).status → ⊥)
+    elim (must_stand next) as (λ v. s ≡ (if v then line_refused next else entries_said entries).status → ⊥)
     [ true ↦ λ h. not_10 h | false ↦ λ h. not_0 h ] e
 
-script_at_4 : (how : Option How) (end : ScriptEnd) (ends ends' faults faults' : ℕ) (taken : List ℕ) → (script_last how end).status ≡ 4 → LeftSo how ends ends' faults faults' taken → Rose faults faults'
-script_at_4 how (LineRefused n) ends ends' faults faults' taken e left = absurd (omega (arith, e))
-script_at_4 None (Answered next entries) ends ends' faults faults' taken e left = absurd (not_said next entries 4 (sym e) (λ h. absurd (omega (arith, h))) (λ h. absurd (omega (arith, h))))
-script_at_4 (Some Ended) (Answered next entries) ends ends' faults faults' taken e left = absurd (not_said next entries 4 (sym e) (λ h. absurd (omega (arith, h))) (λ h. absurd (omega (arith, h))))
-script_at_4 (Some Over) (Answered next entries) ends ends' faults faults' taken e left = absurd (omega (arith, e))
-script_at_4 (Some Failed) (Answered next entries) ends ends' faults faults' taken e left = left.1
+script_at_4 : (how : Option How) (end : ScriptEnd) (before after : SourceSeen) (taken : List ℕ) → (script_last how end).status ≡ 4 → LeftSo how before after taken → Rose before.faults after.faults
+script_at_4 how (LineRefused n) before after taken e left = absurd (omega (arith, e))
+script_at_4 None (Answered next entries) before after taken e left = absurd (not_said next entries 4 (sym e) (λ h. absurd (omega (arith, h))) (λ h. absurd (omega (arith, h))))
+script_at_4 (Some Ended) (Answered next entries) before after taken e left = absurd (not_said next entries 4 (sym e) (λ h. absurd (omega (arith, h))) (λ h. absurd (omega (arith, h))))
+script_at_4 (Some Over) (Answered next entries) before after taken e left = absurd (omega (arith, e))
+script_at_4 (Some Failed) (Answered next entries) before after taken e left = left.1
 
-script_ended_at : (how : Option How) (text : List ℕ) (end : ScriptEnd) (ends ends' faults faults' : ℕ) (taken : List ℕ) → is_end (script_last how end).status ≡ true → IsDecided how (Answers text end) → LeftSo how ends ends' faults faults' taken → Rose ends ends'
-script_ended_at None text end ends ends' faults faults' taken e decided left = absurd decided
-script_ended_at (Some Ended) text end ends ends' faults faults' taken e decided left = left.0
-script_ended_at (Some Over) text (LineRefused n) ends ends' faults faults' taken e decided left = absurd (false≢true e)
-script_ended_at (Some Failed) text (LineRefused n) ends ends' faults faults' taken e decided left = absurd (false≢true e)
-script_ended_at (Some Over) text (Answered next entries) ends ends' faults faults' taken e decided left = absurd (false≢true e)
-script_ended_at (Some Failed) text (Answered next entries) ends ends' faults faults' taken e decided left = absurd (false≢true e)
+script_ended_at : (how : Option How) (text : List ℕ) (end : ScriptEnd) (before after : SourceSeen) (taken : List ℕ) → is_end (script_last how end).status ≡ true → IsDecided how (Answers text end) → LeftSo how before after taken → Rose before.ends after.ends
+script_ended_at None text end before after taken e decided left = absurd decided
+script_ended_at (Some Ended) text end before after taken e decided left = left.0
+script_ended_at (Some Over) text (LineRefused n) before after taken e decided left = absurd (false≢true e)
+script_ended_at (Some Failed) text (LineRefused n) before after taken e decided left = absurd (false≢true e)
+script_ended_at (Some Over) text (Answered next entries) before after taken e decided left = absurd (false≢true e)
+script_ended_at (Some Failed) text (Answered next entries) before after taken e decided left = absurd (false≢true e)
+
+-- the statuses of a run that neither its output nor its memory cut off
+abbrev is_status : ℕ → Bool
+is_status s = is_last s || s == 10 || s == 1 || s == 2 || s == 3 || s == 12
+
+script_said_status : (next entries : ℕ) → is_status (script_said next entries).status ≡ true
+script_said_status next entries =
+    elim (must_stand next) as (λ v. is_status (if v then line_refused next else entries_said entries).status ≡ true)
+    [ true ↦ refl | false ↦ refl ]
+
+course_status : (how : Option How) (course : Course) → is_status (said how course).status ≡ true
+course_status how WordsRefused = refl
+course_status how FileFault = refl
+course_status how NotBuilt = refl
+course_status how TypeRefused = refl
+course_status how (Values d def readings (Refused bit why)) = refl
+course_status None (Values d def readings End) = refl
+course_status None (Values d def readings (TooFew left)) = refl
+course_status (Some Ended) (Values d def readings End) = refl
+course_status (Some Ended) (Values d def readings (TooFew left)) = refl
+course_status (Some Failed) (Values d def readings End) = refl
+course_status (Some Failed) (Values d def readings (TooFew left)) = refl
+course_status (Some Over) (Values d def readings End) = refl
+course_status (Some Over) (Values d def readings (TooFew left)) = refl
+course_status how (Answers text (LineRefused n)) = refl
+course_status None (Answers text (Answered next entries)) = script_said_status next entries
+course_status (Some Ended) (Answers text (Answered next entries)) = script_said_status next entries
+course_status (Some Failed) (Answers text (Answered next entries)) = refl
+course_status (Some Over) (Answers text (Answered next entries)) = refl
+
+-- no run says another status
+pub not_said_by : (words : List (List ℕ)) (t : Taken) (outcome : Said) (s : ℕ) → is_status s ≡ false → Tool words t outcome → s ≡ outcome.status → ⊥
+not_said_by words t outcome s other tool e =
+    false≢true (sym other ∙ ap is_status (e ∙ ap (λ (o : Said). o.status) tool.3) ∙ course_status t.how tool.0)
+
+-- a run that isn't cut off says another status than those of a run that is
+pub cut_status : (words : List (List ℕ)) (t : Taken) (outcome : Said) → Tool words t outcome → (outcome.status ≢ 5) × (outcome.status ≢ 8)
+cut_status words t outcome tool =
+    (λ e. not_said_by words t outcome 5 refl tool (sym e), λ e. not_said_by words t outcome 8 refl tool (sym e))
 
 -- the words of one command are not another's
 pub not_both : (words : List (List ℕ)) (name kind : List ℕ) → AreDecode words name kind → AreReplay words → ⊥
@@ -102,84 +141,113 @@ not_both words name kind decode replay =
     let same : codes "decode" ∷ name ∷ kind ∷ [] ≡ codes "replay" ∷ [] = sym decode.spelled ∙ replay in
     absurd (omega (arith, ap length same))
 
-pub words_at_2 : (words : List (List ℕ)) (file : Option (List ℕ)) (taken : List ℕ) (how : Option How) (result : Result) → ComesTo words file taken how result → (said how result).status ≡ 2 → AreRefused words
-words_at_2 words file taken how WordsRefused comes e = comes
-words_at_2 words file taken how FileFault comes e = absurd (omega (arith, e))
-words_at_2 words file taken how NotBuilt comes e = absurd (omega (arith, e))
-words_at_2 words file taken how TypeRefused comes e = absurd (omega (arith, e))
-words_at_2 words file taken how (Values d def readings ending) comes e = absurd (not_last how ending 2 refl (sym e))
-words_at_2 words file taken how (Answers text end) comes e = absurd (not_script how end 2 refl (sym e))
+pub words_at_2 : (words : List (List ℕ)) (t : Taken) (course : Course) → ComesTo words t course → (said t.how course).status ≡ 2 → AreRefused words
+words_at_2 words t WordsRefused comes e = comes
+words_at_2 words t FileFault comes e = absurd (omega (arith, e))
+words_at_2 words t NotBuilt comes e = absurd (omega (arith, e))
+words_at_2 words t TypeRefused comes e = absurd (omega (arith, e))
+words_at_2 words t (Values d def readings ending) comes e = absurd (not_last t.how ending 2 refl (sym e))
+words_at_2 words t (Answers text end) comes e = absurd (not_script t.how end 2 refl (sym e))
 
-pub only_words : (words : List (List ℕ)) (file : Option (List ℕ)) (taken : List ℕ) (how : Option How) (result : Result) → ComesTo words file taken how result → AreRefused words → (said how result).status ≡ 2
-only_words words file taken how WordsRefused comes none = refl
-only_words words file taken how FileFault comes none = absurd (none.0 comes.0 comes.1 comes.2)
-only_words words file taken how NotBuilt comes none = absurd (none.0 comes.0 comes.1 comes.3)
-only_words words file taken how TypeRefused comes none = absurd (none.0 comes.0 comes.1 comes.4)
-only_words words file taken how (Values d def readings ending) comes none = absurd (none.0 comes.0 comes.1 comes.3)
-only_words words file taken how (Answers text end) comes none = absurd (none.1 comes.0)
+pub only_words : (words : List (List ℕ)) (t : Taken) (course : Course) → ComesTo words t course → AreRefused words → (said t.how course).status ≡ 2
+only_words words t WordsRefused comes none = refl
+only_words words t FileFault comes none = absurd (none.0 comes.0 comes.1 comes.2)
+only_words words t NotBuilt comes none = absurd (none.0 comes.0 comes.1 comes.3)
+only_words words t TypeRefused comes none = absurd (none.0 comes.0 comes.1 comes.4)
+only_words words t (Values d def readings ending) comes none = absurd (none.0 comes.0 comes.1 comes.3)
+only_words words t (Answers text end) comes none = absurd (none.1 comes.0)
 
-pub fault_at_3 : (words : List (List ℕ)) (file : Option (List ℕ)) (taken : List ℕ) (how : Option How) (result : Result) → ComesTo words file taken how result → (said how result).status ≡ 3 → (name kind : List ℕ) × AreDecode words name kind × (file ≡ None)
-fault_at_3 words file taken how WordsRefused comes e = absurd (omega (arith, e))
-fault_at_3 words file taken how FileFault comes e = comes
-fault_at_3 words file taken how NotBuilt comes e = absurd (omega (arith, e))
-fault_at_3 words file taken how TypeRefused comes e = absurd (omega (arith, e))
-fault_at_3 words file taken how (Values d def readings ending) comes e = absurd (not_last how ending 3 refl (sym e))
-fault_at_3 words file taken how (Answers text end) comes e = absurd (not_script how end 3 refl (sym e))
+pub fault_at_3 : (words : List (List ℕ)) (t : Taken) (course : Course) → ComesTo words t course → (said t.how course).status ≡ 3 → (name kind : List ℕ) × AreDecode words name kind × (t.file ≡ None)
+fault_at_3 words t WordsRefused comes e = absurd (omega (arith, e))
+fault_at_3 words t FileFault comes e = comes
+fault_at_3 words t NotBuilt comes e = absurd (omega (arith, e))
+fault_at_3 words t TypeRefused comes e = absurd (omega (arith, e))
+fault_at_3 words t (Values d def readings ending) comes e = absurd (not_last t.how ending 3 refl (sym e))
+fault_at_3 words t (Answers text end) comes e = absurd (not_script t.how end 3 refl (sym e))
 
-pub rose_at_none : (name : List ℕ) (faults faults' : List ℕ → ℕ) (told file : Option (List ℕ)) → file ≡ None → FileSeen name faults faults' told file → Rose (faults name) (faults' name)
-rose_at_none name faults faults' told None e seen = seen
-rose_at_none name faults faults' told (Some text) e seen = absurd cc
+pub rose_at_none : (name : List ℕ) (before after : ShelfSeen) (file : Option (List ℕ)) → file ≡ None → FileSeen name before after file → Rose (before.faults name) (after.faults name)
+rose_at_none name before after None e seen = seen
+rose_at_none name before after (Some text) e seen = absurd cc
 
 -- where the file's count rose, nothing was seen of it
-pub none_at_rise : (name : List ℕ) (faults faults' : List ℕ → ℕ) (told file : Option (List ℕ)) → FileSeen name faults faults' told file → faults name < faults' name → file ≡ None
-none_at_rise name faults faults' told None seen rise = refl
-none_at_rise name faults faults' told (Some text) seen rise = absurd (omega (arith, seen.0 name, rise))
+pub none_at_rise : (name : List ℕ) (before after : ShelfSeen) (file : Option (List ℕ)) → FileSeen name before after file → before.faults name < after.faults name → file ≡ None
+none_at_rise name before after None seen rise = refl
+none_at_rise name before after (Some text) seen rise = absurd (omega (arith, seen.0 name, rise))
 
-pub only_fault : (words : List (List ℕ)) (file : Option (List ℕ)) (taken name kind : List ℕ) (how : Option How) (result : Result) → ComesTo words file taken how result → AreDecode words name kind → file ≡ None → (said how result).status ≡ 3
-only_fault words file taken name kind how WordsRefused comes decode e = absurd (comes.0 name kind decode)
-only_fault words file taken name kind how FileFault comes decode e = refl
-only_fault words file taken name kind how NotBuilt comes decode e = absurd (let h = sym e ∙ comes.4 in cc)
-only_fault words file taken name kind how TypeRefused comes decode e = absurd (let h = sym e ∙ comes.5 in cc)
-only_fault words file taken name kind how (Values d def readings ending) comes decode e = absurd (let h = sym e ∙ comes.4 in cc)
-only_fault words file taken name kind how (Answers text end) comes decode e = absurd (not_both words name kind decode comes.0)
+pub only_fault : (words : List (List ℕ)) (t : Taken) (name kind : List ℕ) (course : Course) → ComesTo words t course → AreDecode words name kind → t.file ≡ None → (said t.how course).status ≡ 3
+only_fault words t name kind WordsRefused comes decode e = absurd (comes.0 name kind decode)
+only_fault words t name kind FileFault comes decode e = refl
+only_fault words t name kind NotBuilt comes decode e = absurd (let h = sym e ∙ comes.4 in cc)
+only_fault words t name kind TypeRefused comes decode e = absurd (let h = sym e ∙ comes.5 in cc)
+only_fault words t name kind (Values d def readings ending) comes decode e = absurd (let h = sym e ∙ comes.4 in cc)
+only_fault words t name kind (Answers text end) comes decode e = absurd (not_both words name kind decode comes.0)
 
-last_at_4 : (how : Option How) (ending : Ending) (ends ends' faults faults' : ℕ) (taken : List ℕ) → (last_said how ending).status ≡ 4 → LeftSo how ends ends' faults faults' taken → Rose faults faults'
-last_at_4 how (Refused bit why) ends ends' faults faults' taken e left = absurd (omega (arith, e))
-last_at_4 None End ends ends' faults faults' taken e left = absurd (omega (arith, e))
-last_at_4 None (TooFew n) ends ends' faults faults' taken e left = absurd (omega (arith, e))
-last_at_4 (Some Ended) End ends ends' faults faults' taken e left = absurd (omega (arith, e))
-last_at_4 (Some Ended) (TooFew n) ends ends' faults faults' taken e left = absurd (omega (arith, e))
-last_at_4 (Some Over) End ends ends' faults faults' taken e left = absurd (omega (arith, e))
-last_at_4 (Some Over) (TooFew n) ends ends' faults faults' taken e left = absurd (omega (arith, e))
-last_at_4 (Some Failed) End ends ends' faults faults' taken e left = left.1
-last_at_4 (Some Failed) (TooFew n) ends ends' faults faults' taken e left = left.1
+last_at_4 : (how : Option How) (ending : Ending) (before after : SourceSeen) (taken : List ℕ) → (last_said how ending).status ≡ 4 → LeftSo how before after taken → Rose before.faults after.faults
+last_at_4 how (Refused bit why) before after taken e left = absurd (omega (arith, e))
+last_at_4 None End before after taken e left = absurd (omega (arith, e))
+last_at_4 None (TooFew n) before after taken e left = absurd (omega (arith, e))
+last_at_4 (Some Ended) End before after taken e left = absurd (omega (arith, e))
+last_at_4 (Some Ended) (TooFew n) before after taken e left = absurd (omega (arith, e))
+last_at_4 (Some Over) End before after taken e left = absurd (omega (arith, e))
+last_at_4 (Some Over) (TooFew n) before after taken e left = absurd (omega (arith, e))
+last_at_4 (Some Failed) End before after taken e left = left.1
+last_at_4 (Some Failed) (TooFew n) before after taken e left = left.1
 
-pub rose_at_4 : (how : Option How) (result : Result) (ends ends' faults faults' : ℕ) (taken : List ℕ) → (said how result).status ≡ 4 → LeftSo how ends ends' faults faults' taken → Rose faults faults'
-rose_at_4 how WordsRefused ends ends' faults faults' taken e left = absurd (omega (arith, e))
-rose_at_4 how FileFault ends ends' faults faults' taken e left = absurd (omega (arith, e))
-rose_at_4 how NotBuilt ends ends' faults faults' taken e left = absurd (omega (arith, e))
-rose_at_4 how TypeRefused ends ends' faults faults' taken e left = absurd (omega (arith, e))
-rose_at_4 how (Values d def readings ending) ends ends' faults faults' taken e left = last_at_4 how ending ends ends' faults faults' taken e left
-rose_at_4 how (Answers text end) ends ends' faults faults' taken e left = script_at_4 how end ends ends' faults faults' taken e left
+pub rose_at_4 : (how : Option How) (course : Course) (before after : SourceSeen) (taken : List ℕ) → (said how course).status ≡ 4 → LeftSo how before after taken → Rose before.faults after.faults
+rose_at_4 how WordsRefused before after taken e left = absurd (omega (arith, e))
+rose_at_4 how FileFault before after taken e left = absurd (omega (arith, e))
+rose_at_4 how NotBuilt before after taken e left = absurd (omega (arith, e))
+rose_at_4 how TypeRefused before after taken e left = absurd (omega (arith, e))
+rose_at_4 how (Values d def readings ending) before after taken e left = last_at_4 how ending before after taken e left
+rose_at_4 how (Answers text end) before after taken e left = script_at_4 how end before after taken e left
 
-end_at : (how : Option How) (d : _) (def : ℕ) (readings : _) (ending : Ending) (ends ends' faults faults' : ℕ) (taken : List ℕ) → is_end (last_said how ending).status ≡ true → IsDecided how (Values d def readings ending) → LeftSo how ends ends' faults faults' taken → Rose ends ends'
-end_at how d def readings (Refused bit why) ends ends' faults faults' taken e decided left = absurd (false≢true e)
-end_at None d def readings End ends ends' faults faults' taken e decided left = absurd decided
-end_at None d def readings (TooFew n) ends ends' faults faults' taken e decided left = absurd decided
-end_at (Some Ended) d def readings End ends ends' faults faults' taken e decided left = left.0
-end_at (Some Ended) d def readings (TooFew n) ends ends' faults faults' taken e decided left = left.0
-end_at (Some Over) d def readings End ends ends' faults faults' taken e decided left = absurd (false≢true e)
-end_at (Some Over) d def readings (TooFew n) ends ends' faults faults' taken e decided left = absurd (false≢true e)
-end_at (Some Failed) d def readings End ends ends' faults faults' taken e decided left = absurd (false≢true e)
-end_at (Some Failed) d def readings (TooFew n) ends ends' faults faults' taken e decided left = absurd (false≢true e)
+end_at : (how : Option How) (d : _) (def : ℕ) (readings : _) (ending : Ending) (before after : SourceSeen) (taken : List ℕ) → is_end (last_said how ending).status ≡ true → IsDecided how (Values d def readings ending) → LeftSo how before after taken → Rose before.ends after.ends
+end_at how d def readings (Refused bit why) before after taken e decided left = absurd (false≢true e)
+end_at None d def readings End before after taken e decided left = absurd decided
+end_at None d def readings (TooFew n) before after taken e decided left = absurd decided
+end_at (Some Ended) d def readings End before after taken e decided left = left.0
+end_at (Some Ended) d def readings (TooFew n) before after taken e decided left = left.0
+end_at (Some Over) d def readings End before after taken e decided left = absurd (false≢true e)
+end_at (Some Over) d def readings (TooFew n) before after taken e decided left = absurd (false≢true e)
+end_at (Some Failed) d def readings End before after taken e decided left = absurd (false≢true e)
+end_at (Some Failed) d def readings (TooFew n) before after taken e decided left = absurd (false≢true e)
 
-pub ended_at : (how : Option How) (result : Result) (ends ends' faults faults' : ℕ) (taken : List ℕ) → is_end (said how result).status ≡ true → IsDecided how result → LeftSo how ends ends' faults faults' taken → Rose ends ends'
-ended_at how WordsRefused ends ends' faults faults' taken e decided left = absurd (false≢true e)
-ended_at how FileFault ends ends' faults faults' taken e decided left = absurd (false≢true e)
-ended_at how NotBuilt ends ends' faults faults' taken e decided left = absurd (false≢true e)
-ended_at how TypeRefused ends ends' faults faults' taken e decided left = absurd (false≢true e)
-ended_at how (Values d def readings ending) ends ends' faults faults' taken e decided left = end_at how d def readings ending ends ends' faults faults' taken e decided left
-ended_at how (Answers text end) ends ends' faults faults' taken e decided left = script_ended_at how text end ends ends' faults faults' taken e decided left
+pub ended_at : (how : Option How) (course : Course) (before after : SourceSeen) (taken : List ℕ) → is_end (said how course).status ≡ true → IsDecided how course → LeftSo how before after taken → Rose before.ends after.ends
+ended_at how WordsRefused before after taken e decided left = absurd (false≢true e)
+ended_at how FileFault before after taken e decided left = absurd (false≢true e)
+ended_at how NotBuilt before after taken e decided left = absurd (false≢true e)
+ended_at how TypeRefused before after taken e decided left = absurd (false≢true e)
+ended_at how (Values d def readings ending) before after taken e decided left = end_at how d def readings ending before after taken e decided left
+ended_at how (Answers text end) before after taken e decided left = script_ended_at how text end before after taken e decided left
+
+last_at_13 : (how : Option How) (ending : Ending) → (last_said how ending).status ≡ 13 → how ≡ Some Over
+last_at_13 how (Refused bit why) e = absurd (omega (arith, e))
+last_at_13 None End e = absurd (omega (arith, e))
+last_at_13 None (TooFew n) e = absurd (omega (arith, e))
+last_at_13 (Some Ended) End e = absurd (omega (arith, e))
+last_at_13 (Some Ended) (TooFew n) e = absurd (omega (arith, e))
+last_at_13 (Some Failed) End e = absurd (omega (arith, e))
+last_at_13 (Some Failed) (TooFew n) e = absurd (omega (arith, e))
+last_at_13 (Some Over) ending e = refl
+
+script_at_13 : (how : Option How) (end : ScriptEnd) → (script_last how end).status ≡ 13 → how ≡ Some Over
+script_at_13 how (LineRefused n) e = absurd (omega (arith, e))
+script_at_13 None (Answered next entries) e = absurd (not_said next entries 13 (sym e) (λ h. absurd (omega (arith, h))) (λ h. absurd (omega (arith, h))))
+script_at_13 (Some Ended) (Answered next entries) e = absurd (not_said next entries 13 (sym e) (λ h. absurd (omega (arith, h))) (λ h. absurd (omega (arith, h))))
+script_at_13 (Some Failed) (Answered next entries) e = absurd (omega (arith, e))
+script_at_13 (Some Over) (Answered next entries) e = refl
+
+how_at_13 : (how : Option How) (course : Course) → (said how course).status ≡ 13 → how ≡ Some Over
+how_at_13 how WordsRefused e = absurd (omega (arith, e))
+how_at_13 how FileFault e = absurd (omega (arith, e))
+how_at_13 how NotBuilt e = absurd (omega (arith, e))
+how_at_13 how TypeRefused e = absurd (omega (arith, e))
+how_at_13 how (Values d def readings ending) e = last_at_13 how ending e
+how_at_13 how (Answers text end) e = script_at_13 how end e
+
+-- an input is too long only where more bytes were taken than count
+pub over_at_13 : (how : Option How) (course : Course) (before after : SourceSeen) (taken : List ℕ) → (said how course).status ≡ 13 → InputTaken before after taken how → InputTaken before after taken (Some Over)
+over_at_13 how course before after taken e input = subst (λ (h : Option How). InputTaken before after taken h) (how_at_13 how course e) input
 
 pub is_or_not : (n m : ℕ) → (n ≡ m) ⊎ (n ≢ m)
 is_or_not zero zero = inl refl
@@ -187,14 +255,23 @@ is_or_not zero (suc m) = inr (λ e. absurd (omega (arith, e)))
 is_or_not (suc n) zero = inr (λ e. absurd (omega (arith, e)))
 is_or_not (suc n) (suc m) = elim (is_or_not n m) [ inl e ↦ inl (ap (λ k. suc k) e) | inr ne ↦ inr (λ e. absurd (ne (omega (arith, e)))) ]
 
-pub refused_at_12 : (words : List (List ℕ)) (file : Option (List ℕ)) (taken : List ℕ) (how : Option How) (result : Result) → ComesTo words file taken how result → (said how result).status ≡ 12 → ComesTo words file taken how TypeRefused
-refused_at_12 words file taken how WordsRefused comes e = absurd (omega (arith, e))
-refused_at_12 words file taken how FileFault comes e = absurd (omega (arith, e))
-refused_at_12 words file taken how NotBuilt comes e = absurd (omega (arith, e))
-refused_at_12 words file taken how TypeRefused comes e = comes
-refused_at_12 words file taken how (Values d def readings ending) comes e = absurd (not_last how ending 12 refl (sym e))
-refused_at_12 words file taken how (Answers text end) comes e = absurd (not_script how end 12 refl (sym e))
+pub refused_at_12 : (words : List (List ℕ)) (t : Taken) (course : Course) → ComesTo words t course → (said t.how course).status ≡ 12 → ComesTo words t TypeRefused
+refused_at_12 words t WordsRefused comes e = absurd (omega (arith, e))
+refused_at_12 words t FileFault comes e = absurd (omega (arith, e))
+refused_at_12 words t NotBuilt comes e = absurd (omega (arith, e))
+refused_at_12 words t TypeRefused comes e = comes
+refused_at_12 words t (Values d def readings ending) comes e = absurd (not_last t.how ending 12 refl (sym e))
+refused_at_12 words t (Answers text end) comes e = absurd (not_script t.how end 12 refl (sym e))
 
-pub text_seen_of : (name : List ℕ) (faults faults' : List ℕ → ℕ) (told file : Option (List ℕ)) (text : List ℕ) → file ≡ Some text → FileSeen name faults faults' told file → IfSome told (λ bytes. text ≡ bytes)
-text_seen_of name faults faults' told None text e seen = absurd cc
-text_seen_of name faults faults' told (Some other) text e seen = let same : other ≡ text = cc in subst (λ (t : List ℕ). IfSome told (λ bytes. t ≡ bytes)) same seen.1
+-- what was seen of a file whose bytes were taken
+pub seen_of : (name : List ℕ) (before after : ShelfSeen) (file : Option (List ℕ)) (text : List ℕ) → file ≡ Some text → FileSeen name before after file → FileSeen name before after (Some text)
+seen_of name before after file text e seen = subst (λ (f : Option (List ℕ)). FileSeen name before after f) e seen
+
+-- no text outside the form leads to another status
+pub unformed_at_1 : (words : List (List ℕ)) (t : Taken) (course : Course) → ComesTo words t course → (said t.how course).status ≡ 1 → ComesTo words t NotBuilt
+unformed_at_1 words t WordsRefused comes e = absurd (omega (arith, e))
+unformed_at_1 words t FileFault comes e = absurd (omega (arith, e))
+unformed_at_1 words t NotBuilt comes e = comes
+unformed_at_1 words t TypeRefused comes e = absurd (omega (arith, e))
+unformed_at_1 words t (Values d def readings ending) comes e = absurd (not_last t.how ending 1 refl (sym e))
+unformed_at_1 words t (Answers text end) comes e = absurd (not_script t.how end 1 refl (sym e))

@@ -13,7 +13,7 @@ use Rattle.std.proofs.lemmas.Slice.Eq.{bytes_eq-Decides}
 use Rattle.plchost.specs.declared.tokens.Width.{Width}
 use Rattle.plchost.specs.declared.tokens.Width.TheVariants.{Bits8, Bits16, Bits32, Bits64}
 use Rattle.plchost.specs.FirstForm.{is_blank, begins_word, continues_word, AllBlank, IsWord, IsName, reserved, Token, Open, Close, Word, Number, digits, spelling, IsToken, StopsAt, Ends, Begins}
-use Rattle.plchost.specs.Reading.{front, behind, symbol_at, symbol_of, word_at, word_of, keyword_of, name_of, width_spelled, number_at, number_of}
+use Rattle.plchost.specs.FormReaders.{front, behind, symbol_at, symbol_of, word_at, word_of, keyword_of, name_of, width_spelled, number_at, number_of}
 use Rattle.plchost.proofs.Fronts.{front_all, behind_all, parted, front_passes, behind_stops}
 
 pair : {A B : Type 0} {a c : A} {b d : B} → a ≡ c → b ≡ d → ◌≡◌ {A = A × B} (a, b) (c, d)

@@ -7,39 +7,39 @@ use Rattle.node_tree.specs.declared.readings.Reading.{Reading}
 use Rattle.node_tree.proofs.BitsLemmas.{within_or_past}
 use Rattle.mspec_tree.specs.declared.defs.Description.{Description}
 use Rattle.mspec_meaning.specs.Stream.{Stream, Ending}
-use Rattle.link_io.specs.Streams.{Tape, AreNext, after_giving-nil}
+use Rattle.link_io.specs.Streams.{ShelfSeen, SourceSeen, Tape, AreNext, after_giving-nil}
 use Rattle.plchost.specs.declared.inputs.How.{How}
 use Rattle.plchost.specs.declared.inputs.How.TheVariants.{Ended}
 use Rattle.plchost.specs.declared.preparing.Refusal.{Refusal}
 use Rattle.plchost.specs.declared.preparing.Refusal.TheVariants as refusals
 use Rattle.plchost.specs.FirstForm.{FirstForm}
 use Rattle.plchost.specs.Listing.{listing, fields_at}
-use Rattle.plchost.specs.Preparing.{ComesToRefusal, refusal_said}
+use Rattle.plchost.specs.Preparing.{ComesToRefusal, refusal_said, untaken}
 use Rattle.plchost.specs.Lines.{lines_of}
-use Rattle.plchost.specs.Runs.{InputTaken, IsScriptFront, ShelfSeen}
+use Rattle.plchost.specs.Runs.{FileTaken, InputTaken, IsScriptFront}
 use Rattle.script_replay.specs.Replays.{Script}
 use Rattle.script_replay.specs.declared.replays.ScriptEnd.{ScriptEnd}
 use Rattle.plchost.proofs.StatusLemmas.{not_both}
-use Rattle.plchost.specs.Tool.{AreDecode, AreReplay, Answers, input_limit, script_last, Names, ComesTo, WordsRefused, FileFault, NotBuilt, TypeRefused, Values, Said, Tool, IsFront, said, listings, last_said}
+use Rattle.plchost.specs.Tool.{AreDecode, AreReplay, Answers, input_limit, script_last, Names, ComesTo, WordsRefused, FileFault, NotBuilt, TypeRefused, Values, Said, Taken, Tool, IsFront, said, listings, last_said}
 
 next_none : (tape : Option Tape) → AreNext [] tape
 next_none None = tt
 next_none (Some tape) = refl
 
 -- an input that was left alone
-pub untouched : (tape : Option Tape) (ends faults : ℕ) → InputTaken tape tape ends ends faults faults [] None
-untouched tape ends faults = record { given = sym (after_giving-nil tape); next = next_none tape; at_end = λ e. absurd (let h : None ≡ Some Ended = e in cc); left = (refl, refl, omega arith) }
+pub untouched : (seen : SourceSeen) → InputTaken seen seen [] None
+untouched seen = record { given = sym (after_giving-nil seen.tape); next = next_none seen.tape; at_end = λ e. absurd (let h : None ≡ Some Ended = e in cc); left = (refl, refl, omega arith) }
 
 pub both_ok : {T E : Type 0} (r : Result T E) (P Q R : T → Type 0) → IfOk r P → IfOk r Q → ((x : T) → P x → Q x → R x) → IfOk r R
 both_ok (Ok x) P Q R p q f = f x p q
 both_ok (Err e) P Q R p q f = tt
 
 -- what a refusal says is what the tool says
-pub refusal_tool : (words : List (List ℕ)) (file : Option (List ℕ)) (r : Refusal) → (r ≡ refusals.NoMemory → ⊥) → ((taken : List ℕ) → ComesToRefusal words file taken r) → Tool words file [] None (refusal_said r)
-refusal_tool words file refusals.WordsRefused h comes = (WordsRefused, comes [], tt, refl)
-refusal_tool words file refusals.FileFault h comes = (FileFault, comes [], tt, refl)
-refusal_tool words file refusals.NotBuilt h comes = (NotBuilt, comes [], tt, refl)
-refusal_tool words file refusals.TypeRefused h comes = (TypeRefused, comes [], tt, refl)
+pub refusal_tool : (words : List (List ℕ)) (file : Option (List ℕ)) (r : Refusal) → (r ≡ refusals.NoMemory → ⊥) → ComesToRefusal words file r → Tool words (untaken file) (refusal_said r)
+refusal_tool words file refusals.WordsRefused h comes = (WordsRefused, comes, tt, refl)
+refusal_tool words file refusals.FileFault h comes = (FileFault, comes, tt, refl)
+refusal_tool words file refusals.NotBuilt h comes = (NotBuilt, comes, tt, refl)
+refusal_tool words file refusals.TypeRefused h comes = (TypeRefused, comes, tt, refl)
 refusal_tool words file refusals.NoMemory h comes = absurd (h refl)
 
 -- the bytes that count
@@ -54,14 +54,18 @@ pub decoded : (n : ℕ) (items now : List ℕ) (len : ℕ) → now ≡ items →
 decoded n items now len value long e =
     ap (λ k. take k now) (e ∙ ap (λ k. min k 16777216) (sym long)) ∙ counted 16777216 now ∙ ap (λ xs. take 16777216 xs) value
 
+-- a file of this text, and these bytes of an input that was left so
+abbrev pub taken_so : (text bytes : List ℕ) → How → Taken
+taken_so text bytes how = record { file = Some text; bytes = bytes; how = Some how }
+
 -- the words, the file and the type lead to these values
-pub comes_to_values : (words : List (List ℕ)) (name kind text taken bytes : List ℕ) (how : Option How) (d : Description) (def : ℕ) (readings : List Reading) (ending : Ending) → AreDecode words name kind → FirstForm text d → Names d def kind → bytes ≡ take 16777216 taken → Stream d def [] bytes readings ending → ComesTo words (Some text) taken how (Values d def readings ending)
+pub comes_to_values : (words : List (List ℕ)) (name kind text taken bytes : List ℕ) (how : How) (d : Description) (def : ℕ) (readings : List Reading) (ending : Ending) → AreDecode words name kind → FirstForm text d → Names d def kind → bytes ≡ take 16777216 taken → Stream d def [] bytes readings ending → ComesTo words (taken_so text taken how) (Values d def readings ending)
 comes_to_values words name kind text taken bytes how d def readings ending decode form named e stream =
     (name, kind, text, decode, refl, form, named, subst (λ (bs : List ℕ). Stream d def [] bs readings ending) e stream)
 
 -- the listings of the first values are a front
-pub front_of_values : (words : List (List ℕ)) (file : Option (List ℕ)) (taken : List ℕ) (how : How) (d : Description) (def : ℕ) (front back : List Reading) (ending : Ending) → ComesTo words file taken (Some how) (Values d def (front ++ back) ending) → IsFront words file taken (Some how) (listings d def front)
-front_of_values words file taken how d def front back ending comes =
+pub front_of_values : (words : List (List ℕ)) (text taken : List ℕ) (how : How) (d : Description) (def : ℕ) (front back : List Reading) (ending : Ending) → ComesTo words (taken_so text taken how) (Values d def (front ++ back) ending) → IsFront words (taken_so text taken how) (listings d def front)
+front_of_values words text taken how d def front back ending comes =
     let all = flat_map-append (λ (r : Reading). listing (fields_at d def) r.node) front back in
     let last = (last_said (Some how) ending).text in
     inr (
@@ -73,36 +77,40 @@ front_of_values words file taken how d def front back ending comes =
     )
 
 -- the listings of all values are a front
-pub front_before_last : (words : List (List ℕ)) (file : Option (List ℕ)) (taken : List ℕ) (how : How) (d : Description) (def : ℕ) (readings : List Reading) (ending : Ending) → ComesTo words file taken (Some how) (Values d def readings ending) → IsFront words file taken (Some how) (listings d def readings)
-front_before_last words file taken how d def readings ending comes =
+pub front_before_last : (words : List (List ℕ)) (text taken : List ℕ) (how : How) (d : Description) (def : ℕ) (readings : List Reading) (ending : Ending) → ComesTo words (taken_so text taken how) (Values d def readings ending) → IsFront words (taken_so text taken how) (listings d def readings)
+front_before_last words text taken how d def readings ending comes =
     inr (Values d def readings ending, (last_said (Some how) ending).text, comes, tt, refl)
 
 -- the values, read to their end
-pub values_tool : (words : List (List ℕ)) (file : Option (List ℕ)) (taken : List ℕ) (how : How) (d : Description) (def : ℕ) (readings : List Reading) (ending : Ending) → ComesTo words file taken (Some how) (Values d def readings ending) → Tool words file taken (Some how) (said (Some how) (Values d def readings ending))
-values_tool words file taken how d def readings ending comes = (Values d def readings ending, comes, tt, refl)
+pub values_tool : (words : List (List ℕ)) (text taken : List ℕ) (how : How) (d : Description) (def : ℕ) (readings : List Reading) (ending : Ending) → ComesTo words (taken_so text taken how) (Values d def readings ending) → Tool words (taken_so text taken how) (said (Some how) (Values d def readings ending))
+values_tool words text taken how d def readings ending comes = (Values d def readings ending, comes, tt, refl)
 
 -- the text of a run is a front of itself
-pub front_of_tool : (words : List (List ℕ)) (file : Option (List ℕ)) (taken : List ℕ) (how : Option How) (told : Said) → Tool words file taken how told → IsFront words file taken how told.text
-front_of_tool words file taken how told tool =
-    inr (tool.0, [], tool.1, tool.2, append-nil told.text ∙ ap (λ (s : Said). s.text) tool.3)
+pub front_of_tool : (words : List (List ℕ)) (t : Taken) (outcome : Said) → Tool words t outcome → IsFront words t outcome.text
+front_of_tool words t outcome tool =
+    inr (tool.0, [], tool.1, tool.2, append-nil outcome.text ∙ ap (λ (s : Said). s.text) tool.3)
 
 -- ---- scripts
 
 -- no file is named by the words of a script
-pub shelf_alone : (words : List (List ℕ)) (faults : List ℕ → ℕ) (counts_with : List ℕ → List ℕ → Type 0) (told : List ℕ → Option (List ℕ)) (file : Option (List ℕ)) → AreReplay words → ShelfSeen words faults faults counts_with told file
-shelf_alone words faults counts_with told file replay =
+pub shelf_alone : (words : List (List ℕ)) (counts_with : List ℕ → List ℕ → Type 0) (seen : ShelfSeen) (file : Option (List ℕ)) → AreReplay words → FileTaken words counts_with seen seen file
+shelf_alone words counts_with seen file replay =
     record { named = λ name kind decode. absurd (not_both words name kind decode replay); others = λ other h. refl }
 
-pub script_tool : (words : List (List ℕ)) (file : Option (List ℕ)) (taken : List ℕ) (how : How) (text : List ℕ) (end : ScriptEnd) → AreReplay words → Script (lines_of (Some how) (take input_limit taken)) text end → Tool words file taken (Some how) (said (Some how) (Answers text end))
-script_tool words file taken how text end replay script = (Answers text end, (replay, script), tt, refl)
+-- these bytes of an input, and no file
+abbrev pub script_taken : List ℕ → Option How → Taken
+script_taken bytes how = record { file = None; bytes = bytes; how = how }
 
-pub front_of_script : (words : List (List ℕ)) (file : Option (List ℕ)) (taken : List ℕ) (how : Option How) (front : List ℕ) → AreReplay words → IsScriptFront how taken front → IsFront words file taken how front
-front_of_script words file taken how front replay is =
+pub script_tool : (words : List (List ℕ)) (taken : List ℕ) (how : How) (text : List ℕ) (end : ScriptEnd) → AreReplay words → Script (lines_of (Some how) (take input_limit taken)) text end → Tool words (script_taken taken (Some how)) (said (Some how) (Answers text end))
+script_tool words taken how text end replay script = (Answers text end, (replay, script), tt, refl)
+
+pub front_of_script : (words : List (List ℕ)) (taken : List ℕ) (how : Option How) (front : List ℕ) → AreReplay words → IsScriptFront how taken front → IsFront words (script_taken taken how) front
+front_of_script words taken how front replay is =
     elim is [
       | inl none ↦ inl none
       | inr s ↦
           let last = (script_last (Some s.0) s.3).text in
           let same = sym (append_assoc front s.2 last) ∙ ap (λ (xs : List ℕ). xs ++ last) s.6 in
-          let all : IsFront words file taken (Some s.0) front = inr (Answers s.1 s.3, s.2 ++ last, (replay, s.5), tt, same) in
-          subst (λ (left : Option How). IsFront words file taken left front) (sym s.4) all
+          let all : IsFront words (script_taken taken (Some s.0)) front = inr (Answers s.1 s.3, s.2 ++ last, (replay, s.5), tt, same) in
+          subst (λ (left : Option How). IsFront words (script_taken taken left) front) (sym s.4) all
     ]

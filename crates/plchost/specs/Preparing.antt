@@ -6,15 +6,19 @@ use Rattle.plchost.specs.declared.files.FileFault as files
 use Rattle.plchost.specs.declared.files.FileFault.TheVariants as file_faults
 use Rattle.plchost.specs.declared.plain_types.FormFault as forms
 use Rattle.plchost.specs.declared.plain_types.FormFault.TheVariants as form_faults
-use Rattle.plchost.specs.Tool.{ComesTo, WordsRefused, FileFault, NotBuilt, TypeRefused, Said, said}
+use Rattle.plchost.specs.Tool.{ComesTo, WordsRefused, FileFault, NotBuilt, TypeRefused, Said, Taken, said}
 
--- the run comes to this refusal, unless memory ran out
-abbrev pub ComesToRefusal : (words : List (List ℕ)) → (file : Option (List ℕ)) → (taken : List ℕ) → Refusal → Type 0
-ComesToRefusal words file taken refusals.WordsRefused = ComesTo words file taken None WordsRefused
-ComesToRefusal words file taken refusals.FileFault = ComesTo words file taken None FileFault
-ComesToRefusal words file taken refusals.NotBuilt = ComesTo words file taken None NotBuilt
-ComesToRefusal words file taken refusals.TypeRefused = ComesTo words file taken None TypeRefused
-ComesToRefusal words file taken refusals.NoMemory = Unit {0}
+-- the file, and nothing of the input
+abbrev pub untaken : Option (List ℕ) → Taken
+untaken file = record { file = file; bytes = []; how = None }
+
+-- a run that took nothing of its input comes to this refusal, unless memory ran out
+abbrev pub ComesToRefusal : (words : List (List ℕ)) → (file : Option (List ℕ)) → Refusal → Type 0
+ComesToRefusal words file refusals.WordsRefused = ComesTo words (untaken file) WordsRefused
+ComesToRefusal words file refusals.FileFault = ComesTo words (untaken file) FileFault
+ComesToRefusal words file refusals.NotBuilt = ComesTo words (untaken file) NotBuilt
+ComesToRefusal words file refusals.TypeRefused = ComesTo words (untaken file) TypeRefused
+ComesToRefusal words file refusals.NoMemory = Unit {0}
 
 -- the refusal that a fault of the file or of its text comes to
 abbrev pub from_file : files.FileFault → Refusal

@@ -1,28 +1,37 @@
 -- What a run of the program did with its streams, as they tell it and by their counts.
-use Rattle.std.specs.Prelude.{ℕ, ◌≡◌, ◌+◌, ◌≤◌, ◌⊎◌, List, [], ◌++◌, take, length, Option, Some, None, IfSome}
+use Rattle.std.specs.Prelude.{ℕ, ◌≡◌, ◌≢◌, ◌+◌, ◌≤◌, ◌⊎◌, List, [], ◌++◌, take, length, codes, Option, Some, None, IfSome}
 use Rattle.link_io.specs.Counts.{Rose}
-use Rattle.link_io.specs.Streams.{Tape, after_giving, AreNext, IsAtEnd, after_taking}
+use Rattle.link_io.specs.Streams.{ShelfSeen, SinkSeen, SourceSeen, after_giving, AreNext, IsAtEnd, after_taking}
+use Rattle.node_tree.specs.declared.readings.Reading.{Reading}
 use Rattle.plchost.specs.declared.inputs.How.{How}
 use Rattle.plchost.specs.declared.inputs.How.TheVariants.{Ended, Failed, Over}
 use Rattle.mspec_tree.specs.declared.defs.Description.{Description}
-use Rattle.script_replay.specs.Replays.{Script}
+use Rattle.mspec_meaning.specs.Stream.{Ending, Stream}
+use Rattle.wire_frames.specs.declared.raw.RawWire.{RawWire}
+use Rattle.conn_core.specs.States.{State}
+use Rattle.script_replay.specs.Replays.{IsUnworn, Leads, Script}
 use Rattle.script_replay.specs.declared.replays.ScriptEnd.{ScriptEnd}
+use Rattle.script_replay.specs.declared.replays.ScriptEnd.TheVariants.{Answered}
 use Rattle.plchost.specs.FirstForm.{FirstForm}
 use Rattle.plchost.specs.Lines.{lines_of}
-use Rattle.plchost.specs.Tool.{AreDecode, Names, input_limit}
+use Rattle.plchost.specs.Tool.{AreDecode, AreReplay, IsFront, Names, Said, Taken, Tool, entries_said, input_limit, last_said, listings}
 
 -- How the input was left, by its two counts and the bytes that were taken.
-abbrev pub LeftSo : Option How → (ends ends' faults faults' : ℕ) → (taken : List ℕ) → Type 0
-LeftSo (Some Ended) ends ends' faults faults' taken = Rose ends ends' × (faults' ≡ faults) × (length taken ≤ input_limit)
-LeftSo (Some Failed) ends ends' faults faults' taken = (ends' ≡ ends) × Rose faults faults' × (length taken ≤ input_limit)
-LeftSo (Some Over) ends ends' faults faults' taken = (ends' ≡ ends) × (faults' ≡ faults) × (length taken ≡ 1 + input_limit)
-LeftSo None ends ends' faults faults' taken = (ends' ≡ ends) × (faults' ≡ faults) × (length taken ≤ input_limit)
+abbrev pub LeftSo : Option How → (before after : SourceSeen) → (taken : List ℕ) → Type 0
+LeftSo (Some Ended) before after taken =
+    Rose before.ends after.ends × (after.faults ≡ before.faults) × (length taken ≤ input_limit)
+LeftSo (Some Failed) before after taken =
+    (after.ends ≡ before.ends) × Rose before.faults after.faults × (length taken ≤ input_limit)
+LeftSo (Some Over) before after taken =
+    (after.ends ≡ before.ends) × (after.faults ≡ before.faults) × (length taken ≡ 1 + input_limit)
+LeftSo None before after taken =
+    (after.ends ≡ before.ends) × (after.faults ≡ before.faults) × (length taken ≤ input_limit)
 
 -- What was read of the file of this name: nothing, and its count rose, or all its bytes as the shelf tells them.
-abbrev pub FileSeen : (name : List ℕ) → (faults faults' : List ℕ → ℕ) → (told : Option (List ℕ)) → Option (List ℕ) → Type 0
-FileSeen name faults faults' told None = Rose (faults name) (faults' name)
-FileSeen name faults faults' told (Some text) =
-    ((other : List ℕ) → faults' other ≡ faults other) × IfSome told (λ bytes. text ≡ bytes)
+abbrev pub FileSeen : (name : List ℕ) → (before after : ShelfSeen) → Option (List ℕ) → Type 0
+FileSeen name before after None = Rose (before.faults name) (after.faults name)
+FileSeen name before after (Some text) =
+    ((other : List ℕ) → after.faults other ≡ before.faults other) × IfSome (before.file name) (λ bytes. text ≡ bytes)
 
 -- These bytes were added to what goes out: some have gone, and the rest is gathered behind them.
 abbrev pub Adds : (held held' : Option (List ℕ)) → (gathered gathered' added : List ℕ) → Type 0
@@ -33,26 +42,91 @@ Adds held held' gathered gathered' added =
 abbrev pub PutsFront : (held held' : Option (List ℕ)) → (bytes : List ℕ) → Type 0
 PutsFront held held' bytes = (front rest : List ℕ) × (front ++ rest ≡ bytes) × (held' ≡ after_taking front held)
 
--- What was seen of the shelf: the file that the words name, if they do, and no other count has changed.
-pub record ShelfSeen (words : List (List ℕ)) (faults faults' : List ℕ → ℕ) (counts_with : List ℕ → List ℕ → Type 0) (told : List ℕ → Option (List ℕ)) (file : Option (List ℕ)) : Type 0 where
-  pub named : (name kind : List ℕ) → AreDecode words name kind → FileSeen name faults faults' (told name) file
-  pub others : (other : List ℕ) → ((name kind : List ℕ) → AreDecode words name kind → counts_with name other → ⊥) → faults' other ≡ faults other
+-- the shelf counts this name together with the file that the words name
+abbrev pub IsCountedWithFile : (counts_with : List ℕ → List ℕ → Type 0) → (words : List (List ℕ)) → (other : List ℕ) → Type 0
+IsCountedWithFile counts_with words other =
+    (name kind : List ℕ) × AreDecode words name kind × counts_with name other
+
+-- What was taken of the shelf: the file that the words name, if they do, and no other count has changed.
+pub record FileTaken (words : List (List ℕ)) (counts_with : List ℕ → List ℕ → Type 0) (before after : ShelfSeen) (file : Option (List ℕ)) : Type 0 where
+  pub named : (name kind : List ℕ) → AreDecode words name kind → FileSeen name before after file
+  pub others : (other : List ℕ) → (IsCountedWithFile counts_with words other → ⊥) → after.faults other ≡ before.faults other
 
 -- What was taken from the input, the next bytes that it had, and how it was left: at its end, if it ended.
-pub record InputTaken (tape tape' : Option Tape) (ends ends' faults faults' : ℕ) (taken : List ℕ) (how : Option How) : Type 0 where
-  pub given : tape' ≡ after_giving taken tape
-  pub next : AreNext taken tape
-  pub at_end : how ≡ Some Ended → IsAtEnd tape'
-  pub left : LeftSo how ends ends' faults faults' taken
+pub record InputTaken (before after : SourceSeen) (taken : List ℕ) (how : Option How) : Type 0 where
+  pub given : after.tape ≡ after_giving taken before.tape
+  pub next : AreNext taken before.tape
+  pub at_end : how ≡ Some Ended → IsAtEnd after.tape
+  pub left : LeftSo how before after taken
+
+-- A run by these words took this from its shelf and its input.
+pub record Took (words : List (List ℕ)) (counts_with : List ℕ → List ℕ → Type 0) (files files' : ShelfSeen) (input input' : SourceSeen) (t : Taken) : Type 0 where
+  pub from_files : FileTaken words counts_with files files' t.file
+  pub from_input : InputTaken input input' t.bytes t.how
+
+-- What the shelf, the input and the output show at one moment.
+pub record Shown : Type 0 where
+  pub files : ShelfSeen
+  pub input : SourceSeen
+  pub out : SinkSeen
+
+-- A run by these words, with this shown before it and after it, answered this status.
+pub record IsRun (words : List (List ℕ)) (counts_with : List ℕ → List ℕ → Type 0) (before after : Shown) (status : ℕ) : Type 0 where
+  -- What is put out is the tool's text, and the status is the tool's.
+  pub said : status ≢ 5 → status ≢ 8 → (t : Taken) × (outcome : Said)
+      × Took words counts_with before.files after.files before.input after.input t
+      × Tool words t outcome
+      × (after.out.held ≡ after_taking outcome.text before.out.held)
+      × (status ≡ outcome.status)
+  -- Where memory ran out it is a front of that text, and then a line that says so.
+  pub no_memory : status ≡ 8 → (t : Taken) × (front : List ℕ)
+      × Took words counts_with before.files after.files before.input after.input t
+      × IsFront words t front
+      × (after.out.held ≡ after_taking (front ++ codes "no memory\n") before.out.held)
+  -- Where the output failed it is a front of what would have been put out otherwise.
+  pub write_fault : status ≡ 5 → (t : Taken) × (whole : List ℕ)
+      × Took words counts_with before.files after.files before.input after.input t
+      × (IsFront words t whole ⊎ ((front : List ℕ) × IsFront words t front × (whole ≡ front ++ codes "no memory\n")))
+      × PutsFront before.out.held after.out.held whole
+  -- The output failed exactly where its count rose.
+  pub out_failed : status ≡ 5 → Rose before.out.faults after.out.faults
+  pub out_well : status ≢ 5 → after.out.faults ≡ before.out.faults
+  -- It leaves every file.
+  pub files : (name : List ℕ) → after.files.file name ≡ before.files.file name
 
 -- The words name a file that was read, a description in it, and a type of it, so that the input is to be read.
-abbrev pub IsReady : (words : List (List ℕ)) → (faults faults' : List ℕ → ℕ) → (counts_with : List ℕ → List ℕ → Type 0) → (told : List ℕ → Option (List ℕ)) → (d : Description) → (def : ℕ) → Type 0
-IsReady words faults faults' counts_with told d def =
+abbrev pub IsReady : (words : List (List ℕ)) → (counts_with : List ℕ → List ℕ → Type 0) → (before after : ShelfSeen) → (d : Description) → (def : ℕ) → Type 0
+IsReady words counts_with before after d def =
     (name kind text : List ℕ)
     × AreDecode words name kind
-    × ShelfSeen words faults faults' counts_with told (Some text)
+    × FileTaken words counts_with before after (Some text)
     × FirstForm text d
     × Names d def kind
+
+-- The words lead to values, and the input ended. Its bytes are these values, up to this ending.
+pub record WasDecoded (words : List (List ℕ)) (counts_with : List ℕ → List ℕ → Type 0) (before after : Shown) (ending : Ending) : Type 0 where
+  pub d : Description
+  pub def : ℕ
+  pub taken : List ℕ
+  pub readings : List Reading
+  pub ready : IsReady words counts_with before.files after.files d def
+  pub from_input : InputTaken before.input after.input taken (Some Ended)
+  pub values : Stream d def [] (take input_limit taken) readings ending
+  pub put_out : after.out.held ≡ after_taking (listings d def readings ++ (last_said (Some Ended) ending).text) before.out.held
+
+-- The words are `replay`, and the input ended. All its lines were answered, and have led to a connection that is open, with a
+-- legal journal below its limit.
+pub record WasReplayed (words : List (List ℕ)) (before after : Shown) : Type 0 where
+  pub taken : List ℕ
+  pub text : List ℕ
+  pub next : ℕ
+  pub state : State RawWire
+  pub are_replay : AreReplay words
+  pub from_input : InputTaken before.input after.input taken (Some Ended)
+  pub answered : Script (lines_of (Some Ended) (take input_limit taken)) text (Answered next (length state.journal))
+  pub leads : Leads (record { next = 1; conn = None }) (lines_of (Some Ended) (take input_limit taken)) (record { next = next; conn = Some state })
+  pub unworn : IsUnworn next state
+  pub put_out : after.out.held ≡ after_taking (text ++ (entries_said (length state.journal)).text) before.out.held
 
 -- the statuses of a run that stops before it reads its input
 abbrev pub StopsEarly : ℕ → Type 0
@@ -62,4 +136,9 @@ StopsEarly status = (status ≡ 1) ⊎ ((status ≡ 2) ⊎ ((status ≡ 3) ⊎ (
 abbrev pub IsScriptFront : Option How → (taken front : List ℕ) → Type 0
 IsScriptFront how taken front =
     (front ≡ [])
-    ⊎ ((left : How) × (text rest : List ℕ) × (end : ScriptEnd) × (how ≡ Some left) × Script (lines_of (Some left) (take input_limit taken)) text end × (front ++ rest ≡ text))
+    ⊎ ((left : How)
+    × (text rest : List ℕ)
+    × (end : ScriptEnd)
+    × (how ≡ Some left)
+    × Script (lines_of (Some left) (take input_limit taken)) text end
+    × (front ++ rest ≡ text))

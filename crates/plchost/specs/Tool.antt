@@ -1,6 +1,6 @@
 -- What the program puts out and its status: by its words, the file that they name, the bytes that were taken from the
 -- input, and how the input was left.
-use Rattle.std.specs.Prelude.{ℕ, ◌≡◌, ◌≢◌, ◌⊎◌, nat_lt, if◌then◌else◌, List, [], ◌∷◌, ◌++◌, take, codes, Option, Some, None, slice_get}
+use Rattle.std.specs.Prelude.{ℕ, ◌≡◌, ◌≢◌, ◌⊎◌, if◌then◌else◌, List, [], ◌∷◌, ◌++◌, take, codes, Option, Some, None, slice_get}
 use Rattle.std.specs.List.{flat_map}
 use Rattle.std.specs.Fmt.{decimal}
 use Rattle.node_tree.specs.declared.readings.Reading.{Reading}
@@ -9,6 +9,7 @@ use Rattle.mspec_tree.specs.declared.defs.Description.{Description}
 use Rattle.mspec_meaning.specs.Stream.{Stream, Ending, End, TooFew, Refused, Why, Value, Unaligned}
 use Rattle.plchost.specs.declared.inputs.How.{How}
 use Rattle.plchost.specs.declared.inputs.How.TheVariants.{Ended, Failed, Over}
+use Rattle.script_lines.specs.Scripts.{must_stand}
 use Rattle.script_replay.specs.Replays.{Script}
 use Rattle.script_replay.specs.declared.replays.ScriptEnd.{ScriptEnd}
 use Rattle.script_replay.specs.declared.replays.ScriptEnd.TheVariants.{Answered, Refused as LineRefused}
@@ -24,10 +25,10 @@ abbrev pub IsPositional : List ℕ → Type 0
 IsPositional [] = ⊥
 IsPositional (b ∷ bs) = b ≢ 45
 
--- the words are `decode FILE TYPE`
-pub record AreDecode (words : List (List ℕ)) (file kind : List ℕ) : Type 0 where
-  pub spelled : words ≡ codes "decode" ∷ file ∷ kind ∷ []
-  pub file_word : IsPositional file
+-- the words are `decode FILE TYPE`, with the name of a file and that of a type
+pub record AreDecode (words : List (List ℕ)) (name kind : List ℕ) : Type 0 where
+  pub spelled : words ≡ codes "decode" ∷ name ∷ kind ∷ []
+  pub name_word : IsPositional name
   pub kind_word : IsPositional kind
 
 -- the words are `replay`
@@ -44,43 +45,48 @@ AreRefused words = ((name kind : List ℕ) → AreDecode words name kind → ⊥
 abbrev pub Names : Description → (def : ℕ) → (name : List ℕ) → Type 0
 Names d def name = (found : Def) × (slice_get d.defs def ≡ Some found) × (found.name ≡ name)
 
--- no more of the input's bytes count
+-- bytes of the input past this limit are left out of account
 abbrev pub input_limit : ℕ
 input_limit = 16777216
 
+-- What a run took: the bytes of the file that its words name, if it could be read; the bytes that were taken from the input;
+-- and how the input was left, if it ended, failed or had more bytes than the limit.
+pub record Taken : Type 0 where
+  pub file : Option (List ℕ)
+  pub bytes : List ℕ
+  pub how : Option How
+
 -- What a run comes to, in the order in which it is tested. The last two are that of the values, up to their end, and that of
 -- the lines of a script, up to theirs, with the text of their answers.
-pub data Result : Type 0 where
-  WordsRefused : Result
-  FileFault : Result
-  NotBuilt : Result
-  TypeRefused : Result
-  Values : (d : Description) (def : ℕ) (readings : List Reading) (ending : Ending) → Result
-  Answers : (text : List ℕ) (end : ScriptEnd) → Result
+pub data Course : Type 0 where
+  WordsRefused : Course
+  FileFault : Course
+  NotBuilt : Course
+  TypeRefused : Course
+  Values : (d : Description) (def : ℕ) (readings : List Reading) (ending : Ending) → Course
+  Answers : (text : List ℕ) (end : ScriptEnd) → Course
 
--- By these words, this file (if it could be read) and these bytes of an input that was left so, a run comes to this.
-abbrev pub ComesTo : (words : List (List ℕ)) → (file : Option (List ℕ)) → (taken : List ℕ) → Option How → Result → Type 0
-ComesTo words file taken how WordsRefused = AreRefused words
-ComesTo words file taken how FileFault = (name kind : List ℕ) × AreDecode words name kind × (file ≡ None)
-ComesTo words file taken how NotBuilt =
-    (name kind text : List ℕ) × AreDecode words name kind × (file ≡ Some text) × ((d : Description) → FirstForm text d → ⊥)
-ComesTo words file taken how TypeRefused =
+-- By these words, and what it took, a run comes to this.
+abbrev pub ComesTo : (words : List (List ℕ)) → Taken → Course → Type 0
+ComesTo words t WordsRefused = AreRefused words
+ComesTo words t FileFault = (name kind : List ℕ) × AreDecode words name kind × (t.file ≡ None)
+ComesTo words t NotBuilt =
+    (name kind text : List ℕ) × AreDecode words name kind × (t.file ≡ Some text) × ((d : Description) → FirstForm text d → ⊥)
+ComesTo words t TypeRefused =
     (name kind text : List ℕ)
     × (d : Description)
     × AreDecode words name kind
-    × (file ≡ Some text)
+    × (t.file ≡ Some text)
     × FirstForm text d
     × ((def : ℕ) → Names d def kind → ⊥)
-ComesTo words file taken how (Values d def readings ending) =
+ComesTo words t (Values d def readings ending) =
     (name kind text : List ℕ)
     × AreDecode words name kind
-    × (file ≡ Some text)
+    × (t.file ≡ Some text)
     × FirstForm text d
     × Names d def kind
-    × Stream d def [] (take input_limit taken) readings ending
-ComesTo words file taken how (Answers text end) =
-    AreReplay words
-    × Script (lines_of how (take input_limit taken)) text end
+    × Stream d def [] (take input_limit t.bytes) readings ending
+ComesTo words t (Answers text end) = AreReplay words × Script (lines_of t.how (take input_limit t.bytes)) text end
 
 -- ---- texts
 
@@ -93,8 +99,8 @@ pub record Said : Type 0 where
   pub text : List ℕ
   pub status : ℕ
 
--- the last line and the status of values that end so, in an input that was left so; an input that was left before its end
--- counts as ended
+-- the last line and the status of values that end so, in an input that was left so. That of an input which was left before
+-- its end stands here only as a case: no run says it, by `IsDecided`.
 abbrev pub last_said : Option How → Ending → Said
 last_said how (Refused bit why) =
     record { text = codes "value refused " ++ decimal bit ++ codes " " ++ why_text why ++ codes "\n"; status = 6 }
@@ -110,10 +116,20 @@ last_said None (TooFew left) = record { text = codes "truncated " ++ decimal lef
 abbrev pub line_refused : ℕ → Said
 line_refused n = record { text = codes "line refused " ++ decimal n ++ codes "\n"; status = 10 }
 
--- a script's first two lines must stand; its other lines may end anywhere
+abbrev pub entries_said : ℕ → Said
+entries_said entries = record { text = codes "entries " ++ decimal entries ++ codes "\n"; status = 0 }
+
+-- a script's first two lines must stand; after them it may end at any line
 abbrev pub script_said : (next entries : ℕ) → Said
-script_said next entries =
-    if nat_lt next 3 then line_refused next else record { text = codes "entries " ++ decimal entries ++ codes "\n"; status = 0 }
+script_said next entries = if must_stand next then line_refused next else entries_said entries
+
+-- the line that is refused, where a script's lines end so in an input that was left so: one that isn't in the form, or one
+-- that must stand and is missing at the input's end
+abbrev pub refused_line : How → ScriptEnd → Option ℕ
+refused_line how (LineRefused n) = Some n
+refused_line Ended (Answered next entries) = if must_stand next then Some next else None
+refused_line Failed (Answered next entries) = None
+refused_line Over (Answered next entries) = None
 
 -- the last line and the status of a script whose lines end so, in an input that was left so
 abbrev pub script_last : Option How → ScriptEnd → Said
@@ -127,7 +143,7 @@ script_last None (Answered next entries) = script_said next entries
 abbrev pub listings : Description → ℕ → List Reading → List ℕ
 listings d def readings = flat_map (λ reading. listing (fields_at d def) reading.node) readings
 
-abbrev pub said : Option How → Result → Said
+abbrev pub said : Option How → Course → Said
 said how WordsRefused = record { text = codes "words refused\n"; status = 2 }
 said how FileFault = record { text = codes "file fault\n"; status = 3 }
 said how NotBuilt = record { text = codes "description refused 1:1 NotBuilt\n"; status = 1 }
@@ -140,20 +156,20 @@ said how (Values d def readings ending) =
 said how (Answers text end) = record { text = text ++ (script_last how end).text; status = (script_last how end).status }
 
 -- The run was decided: where values were read and none was refused, and where lines were read, the input ended, failed or
--- had too many bytes.
-abbrev pub IsDecided : Option How → Result → Type 0
+-- had more bytes than the limit. So no run that was decided has the text of an input that was left before its end, but for
+-- a value that was refused in it.
+abbrev pub IsDecided : Option How → Course → Type 0
 IsDecided None (Values d def readings End) = ⊥
 IsDecided None (Values d def readings (TooFew left)) = ⊥
 IsDecided None (Answers text end) = ⊥
-IsDecided how result = Unit {0}
+IsDecided how course = Unit {0}
 
--- By these words, this file and these bytes of an input that was left so, the text and the status are these.
-abbrev pub Tool : (words : List (List ℕ)) → (file : Option (List ℕ)) → (taken : List ℕ) → Option How → Said → Type 0
-Tool words file taken how told =
-    (result : Result) × ComesTo words file taken how result × IsDecided how result × (told ≡ said how result)
+-- By these words, and what it took, a run says this.
+abbrev pub Tool : (words : List (List ℕ)) → Taken → Said → Type 0
+Tool words t outcome = (course : Course) × ComesTo words t course × IsDecided t.how course × (outcome ≡ said t.how course)
 
--- A front of the text. Of values and lines there is one only where the input ended, failed or had too many bytes.
-abbrev pub IsFront : (words : List (List ℕ)) → (file : Option (List ℕ)) → (taken : List ℕ) → Option How → (front : List ℕ) → Type 0
-IsFront words file taken how front =
+-- A front of the text. Of values and lines there is one only where the run was decided.
+abbrev pub IsFront : (words : List (List ℕ)) → Taken → (front : List ℕ) → Type 0
+IsFront words t front =
     (front ≡ [])
-    ⊎ ((result : Result) × (rest : List ℕ) × ComesTo words file taken how result × IsDecided how result × (front ++ rest ≡ (said how result).text))
+    ⊎ ((course : Course) × (rest : List ℕ) × ComesTo words t course × IsDecided t.how course × (front ++ rest ≡ (said t.how course).text))

@@ -13,6 +13,9 @@ use itoa::Buffer;
 use script_replay::ScriptEnd;
 use std::alloc::{AllocError, Global};
 
+/// How many lines a script has at least.
+const MUST_STAND: u64 = 2;
+
 fn why_text(why: ValueWhy) -> &'static [u8]
     ensures { result.now ≡ why_text (why_of why) }
 {
@@ -95,7 +98,7 @@ pub fn close_script(
         (How::Failed, _) => add_last(gathered, b"read fault\n", 4),
         (How::Over, _) => add_last(gathered, b"input too long\n", 13),
         (How::Ended, ScriptEnd::Answered { next, entries }) => {
-            if next < 3 {
+            if next <= MUST_STAND {
                 refuse_line(alloc, gathered, next)
             } else {
                 add_last(gathered, &numbered_line(alloc, b"entries ", entries)?, 0)

@@ -1,9 +1,8 @@
 ghost use Rattle.std.specs.Prelude.{◌≡◌, ◌+◌, ◌<◌, ◌⊎◌, length, ℕ, List, ◌++◌, Option, Err, IfOk};
 ghost use Rattle.link_io.specs.Counts.{Rose};
 ghost use Rattle.mspec_tree.specs.declared.defs.Description.{Description};
-ghost use Rattle.plchost.specs.declared.inputs.How.{How};
-ghost use Rattle.plchost.specs.Tool.{AreReplay, Said, Tool, IsFront};
-ghost use Rattle.plchost.specs.Runs.{Adds, PutsFront, ShelfSeen, InputTaken, IsReady, StopsEarly};
+ghost use Rattle.plchost.specs.Tool.{AreReplay, Said, Taken, Tool, IsFront};
+ghost use Rattle.plchost.specs.Runs.{Adds, PutsFront, Took, IsReady, StopsEarly};
 
 use crate::closing::{close, say};
 use crate::faults::Cut;
@@ -24,28 +23,25 @@ pub fn decode<F: Shelf, S: Source, K: Sink>(
     gathered: &mut Vec<u8>,
 ) -> Result<u8, Cut>
     requires { AreReplay words.now → ⊥ }
-    ensures said { IfOk result (λ status. (file : Option (List ℕ)) × (taken : List ℕ) × (how : Option How) × (told : Said)
-        × ShelfSeen words.now (F.faults files.old) (F.faults files.new) F.counts_with (F.file files.old) file
-        × InputTaken (S.told input.old) (S.told input.new) (S.ends input.old) (S.ends input.new) (S.faults input.old) (S.faults input.new) taken how
-        × Tool words.now file taken how told
-        × Adds (K.held out.old) (K.held out.new) gathered.old.items gathered.new.items told.text
-        × (status ≡ told.status)) }
-    ensures files { (other : List ℕ) → F.file files.new other ≡ F.file files.old other }
+    ensures said { IfOk result (λ status. (t : Taken) × (outcome : Said)
+        × Took words.now F.counts_with (F.seen files.old) (F.seen files.new) (S.seen input.old) (S.seen input.new) t
+        × Tool words.now t outcome
+        × Adds (K.seen out.old).held (K.seen out.new).held gathered.old.items gathered.new.items outcome.text
+        × (status ≡ outcome.status)) }
+    ensures files { (other : List ℕ) → (F.seen files.new).file other ≡ (F.seen files.old).file other }
     ensures touched { (input.new ≡ input.old) ⊎ ((d : Description) × (def : ℕ)
-        × IsReady words.now (F.faults files.old) (F.faults files.new) F.counts_with (F.file files.old) d def) }
+        × IsReady words.now F.counts_with (F.seen files.old) (F.seen files.new) d def) }
     ensures untouched { IfOk result (λ status. StopsEarly status → input.new ≡ input.old) }
-    ensures no_fault { result ≡ Err Cut.WriteFault ⊎ (K.faults out.new ≡ K.faults out.old) }
-    ensures no_memory { result ≡ Err Cut.NoMemory → (file : Option (List ℕ)) × (taken : List ℕ) × (how : Option How) × (front : List ℕ)
-        × ShelfSeen words.now (F.faults files.old) (F.faults files.new) F.counts_with (F.file files.old) file
-        × InputTaken (S.told input.old) (S.told input.new) (S.ends input.old) (S.ends input.new) (S.faults input.old) (S.faults input.new) taken how
-        × IsFront words.now file taken how front
-        × Adds (K.held out.old) (K.held out.new) gathered.old.items gathered.new.items front }
-    ensures cut { result ≡ Err Cut.WriteFault → (file : Option (List ℕ)) × (taken : List ℕ) × (how : Option How) × (front : List ℕ)
-        × ShelfSeen words.now (F.faults files.old) (F.faults files.new) F.counts_with (F.file files.old) file
-        × InputTaken (S.told input.old) (S.told input.new) (S.ends input.old) (S.ends input.new) (S.faults input.old) (S.faults input.new) taken how
-        × IsFront words.now file taken how front
-        × PutsFront (K.held out.old) (K.held out.new) (gathered.old.items ++ front) }
-    ensures fault { result ≡ Err Cut.WriteFault → Rose (K.faults out.old) (K.faults out.new) }
+    ensures no_fault { result ≡ Err Cut.WriteFault ⊎ ((K.seen out.new).faults ≡ (K.seen out.old).faults) }
+    ensures no_memory { result ≡ Err Cut.NoMemory → (t : Taken) × (front : List ℕ)
+        × Took words.now F.counts_with (F.seen files.old) (F.seen files.new) (S.seen input.old) (S.seen input.new) t
+        × IsFront words.now t front
+        × Adds (K.seen out.old).held (K.seen out.new).held gathered.old.items gathered.new.items front }
+    ensures cut { result ≡ Err Cut.WriteFault → (t : Taken) × (front : List ℕ)
+        × Took words.now F.counts_with (F.seen files.old) (F.seen files.new) (S.seen input.old) (S.seen input.new) t
+        × IsFront words.now t front
+        × PutsFront (K.seen out.old).held (K.seen out.new).held (gathered.old.items ++ front) }
+    ensures fault { result ≡ Err Cut.WriteFault → Rose (K.seen out.old).faults (K.seen out.new).faults }
 {
     let ready = match prepare(alloc, words, files) {
         Ok(ready) => ready,

@@ -2,11 +2,9 @@ ghost use Rattle.std.specs.Prelude.{◌≡◌, ◌+◌, ◌⊎◌, ◌<◌, ℕ,
 ghost use Rattle.link_io.specs.Counts.{Rose};
 ghost use Rattle.plchost.specs.declared.files.FileFault.TheVariants.{NoMemory};
 
+use crate::plain_types::MAX_BYTES;
 use link_io::{Failed, Shelf};
 use std::alloc::{AllocError, Global};
-
-/// The greatest length of a description, in bytes.
-pub const TEXT_LIMIT: usize = 1_048_576;
 
 /// How many bytes are asked for at a time.
 const PIECE: usize = 65_536;
@@ -38,17 +36,17 @@ impl From<Failed> for FileFault {
 
 /// Reads the file of a name, up to one byte past the greatest length of a description.
 pub fn read_file<F: Shelf>(alloc: Global, files: &mut F, name: &str) -> Result<Vec<u8>, FileFault>
-    ensures text { IfOk result (λ text. IfSome (F.file files.old name.now) (λ bytes.
-        text.items ≡ take (1 + TEXT_LIMIT) bytes)) }
-    ensures files { (other : List ℕ) → F.file files.new other ≡ F.file files.old other }
-    ensures no_fault { result ≡ Err FileFault.Failed ⊎ ((other : List ℕ) → F.faults files.new other ≡ F.faults files.old other) }
-    ensures others { (other : List ℕ) → (F.counts_with name.now other → ⊥) → F.faults files.new other ≡ F.faults files.old other }
-    ensures fault { result ≡ Err FileFault.Failed → Rose (F.faults files.old name.now) (F.faults files.new name.now) }
+    ensures text { IfOk result (λ text. IfSome ((F.seen files.old).file name.now) (λ bytes.
+        text.items ≡ take (1 + MAX_BYTES) bytes)) }
+    ensures files { (other : List ℕ) → (F.seen files.new).file other ≡ (F.seen files.old).file other }
+    ensures no_fault { result ≡ Err FileFault.Failed ⊎ ((other : List ℕ) → (F.seen files.new).faults other ≡ (F.seen files.old).faults other) }
+    ensures others { (other : List ℕ) → (F.counts_with name.now other → ⊥) → (F.seen files.new).faults other ≡ (F.seen files.old).faults other }
+    ensures fault { result ≡ Err FileFault.Failed → Rose ((F.seen files.old).faults name.now) ((F.seen files.new).faults name.now) }
 {
     let mut text = Vec::new(alloc);
     let mut buffer = [0; PIECE];
-    while text.len() <= TEXT_LIMIT {
-        let room = PIECE.min(TEXT_LIMIT + 1 - text.len());
+    while text.len() <= MAX_BYTES {
+        let room = PIECE.min(MAX_BYTES + 1 - text.len());
         let piece = &mut buffer[..room];
         let count = files.read_at(name, text.len() as u64, piece)?;
         if count == 0 {

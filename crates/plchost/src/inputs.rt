@@ -6,13 +6,13 @@ ghost use Rattle.plchost.specs.Runs.{InputTaken};
 use link_io::Source;
 use std::alloc::{AllocError, Global};
 
-/// How many bytes of an input count.
+/// How many bytes of an input are taken into account.
 pub const INPUT_LIMIT: usize = 16_777_216;
 
 /// How many bytes are asked for at a time.
 const PIECE: usize = 65_536;
 
-/// How an input was left: it ended, it failed, or it had more bytes than count.
+/// How an input was left: it ended, it failed, or it had more bytes than the limit.
 #[derive(Clone, Copy, Debug, PartialEq, Eq)]
 pub enum How {
     Ended,
@@ -29,7 +29,7 @@ impl How {
     }
 }
 
-/// The bytes that were taken from an input, at most one more than count, and how it was left.
+/// The bytes that were taken from an input, at most one more than the limit, and how it was left.
 #[derive(Debug, Drop)]
 pub struct Capture {
     pub bytes: Vec<u8>,
@@ -39,9 +39,9 @@ pub struct Capture {
 /// Takes an input to its end, but for what lies past the byte that shows that it is too long.
 pub fn read_input<S: Source>(alloc: Global, input: &mut S) -> Result<Capture, AllocError>
     ensures taken { IfOk result (λ capture.
-        InputTaken (S.told input.old) (S.told input.new) (S.ends input.old) (S.ends input.new) (S.faults input.old) (S.faults input.new) capture.bytes.items (Some capture.how)) }
+        InputTaken (S.seen input.old) (S.seen input.new) capture.bytes.items (Some capture.how)) }
     ensures no_memory { IfErr result (λ _. (taken : List ℕ) × (how : Option How)
-        × InputTaken (S.told input.old) (S.told input.new) (S.ends input.old) (S.ends input.new) (S.faults input.old) (S.faults input.new) taken how) }
+        × InputTaken (S.seen input.old) (S.seen input.new) taken how) }
 {
     let mut bytes = Vec::new(alloc);
     let mut buffer = [0; PIECE];

@@ -1,6 +1,13 @@
-ghost use Rattle.std.specs.Prelude.{◌≡◌, ◌<◌, ◌==◌, [], ◌∷◌, length, MatchOption};
-ghost use Rattle.std.specs.List.{position};
-ghost use Rattle.plchost.specs.Lines.{lines_in};
+ghost use Rattle.std.specs.Prelude.{◌≡◌, ◌<◌, ◌==◌, ℕ, Bool, List, [], ◌∷◌, ◌++◌, length, MatchOption};
+ghost use Rattle.std.specs.List.{AllByRecursion, position};
+ghost use Rattle.plchost.specs.Lines.{IsFeedless, last_line, lines_in, with_feeds};
+
+/// Lines that stand one after another, each with its line feed, and what stands behind the last of them, are read as these
+/// lines and that rest.
+pub fn lines_and_rest()
+    ensures { (ended : Bool) (lines : List (List ℕ)) (rest : List ℕ) → AllByRecursion IsFeedless lines → IsFeedless rest
+        → lines_in ended (with_feeds lines ++ rest) ≡ lines ++ last_line ended rest }
+{}
 
 /// Where the first line feed is.
 fn find_feed(bytes: &[u8]) -> Option<usize>

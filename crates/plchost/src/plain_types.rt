@@ -4,7 +4,7 @@ ghost use Rattle.std.specs.Prelude.{◌≡◌, List, ℕ, map, IfOk};
 ghost use Rattle.std.specs.List.{list_any};
 ghost use Rattle.std.specs.Str.{bytes_eq};
 ghost use Rattle.plchost.specs.FirstForm.{FirstForm, PlainField, PlainType, AreFields, IsPlain, BeginsWith, Tokens, tokens_of, tree_of, field_tree, bits};
-ghost use Rattle.plchost.specs.Reading.{Gives, AreAllFields, seen, seen_type, head_of, field_of, then_close, is_end};
+ghost use Rattle.plchost.specs.FormReaders.{Gives, AreAllFields, seen, seen_type, head_of, field_of, then_close, is_end};
 ghost use Rattle.plchost.specs.declared.plain_types.FormFault.TheVariants.{NoMemory};
 ghost use Rattle.mspec_tree.specs.declared.defs.Description.{Description};
 
@@ -54,7 +54,7 @@ struct ReadField<'a> {
 }
 
 /// The type's name, and what follows it.
-#[tactic(auto, unfolding(crate::specs::Reading::head_of))]
+#[tactic(auto, unfolding(crate::specs::FormReaders::head_of))]
 fn head(text: &[u8]) -> Option<(&[u8], &[u8])>
     ensures { Gives (λ r. (r.0.now, r.1.now)) result (head_of text.now) }
 {
@@ -64,7 +64,7 @@ fn head(text: &[u8]) -> Option<(&[u8], &[u8])>
 }
 
 /// The field, and what follows it.
-#[tactic(auto, unfolding(crate::specs::Reading::field_of))]
+#[tactic(auto, unfolding(crate::specs::FormReaders::field_of))]
 fn field(text: &[u8]) -> Option<(ReadField<'_>, &[u8])>
     ensures { Gives (λ r. (seen r.0, r.1.now)) result (field_of text.now) }
 {

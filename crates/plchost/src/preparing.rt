@@ -2,7 +2,7 @@ ghost use Rattle.std.specs.Prelude.{◌≡◌, ◌<◌, ◌≤◌, ℕ, List, So
 ghost use Rattle.mspec_tree.specs.declared.defs.Description.{Description};
 ghost use Rattle.mspec_meaning.specs.Plain.{CanRead};
 ghost use Rattle.plchost.specs.Tool.{AreReplay, Names};
-ghost use Rattle.plchost.specs.Runs.{ShelfSeen, IsReady};
+ghost use Rattle.plchost.specs.Runs.{FileTaken, IsReady};
 ghost use Rattle.plchost.specs.Preparing.{ComesToRefusal, from_file, from_form};
 
 use crate::files::{FileFault, read_file};
@@ -52,11 +52,11 @@ pub fn prepare<F: Shelf>(
 ) -> Result<Prepared, Refusal>
     requires { AreReplay words.now → ⊥ }
     ensures ready { IfOk result (λ ready.
-        IsReady words.now (F.faults files.old) (F.faults files.new) F.counts_with (F.file files.old) ready.description ready.def) }
-    ensures files { (other : List ℕ) → F.file files.new other ≡ F.file files.old other }
+        IsReady words.now F.counts_with (F.seen files.old) (F.seen files.new) ready.description ready.def) }
+    ensures files { (other : List ℕ) → (F.seen files.new).file other ≡ (F.seen files.old).file other }
     ensures refused { IfErr result (λ refusal. (file : Option (List ℕ))
-        × ShelfSeen words.now (F.faults files.old) (F.faults files.new) F.counts_with (F.file files.old) file
-        × ((taken : List ℕ) → ComesToRefusal words.now file taken refusal)) }
+        × FileTaken words.now F.counts_with (F.seen files.old) (F.seen files.new) file
+        × ComesToRefusal words.now file refusal) }
 {
     let Some(found) = decode_words(words) else {
         return Err(Refusal::WordsRefused);

@@ -10,12 +10,12 @@ const ENOUGH: usize = 65_536;
 
 /// Puts all bytes out. A write that takes no byte is a fault. What went out before a fault is a front of the bytes.
 pub fn put_all<K: Sink>(out: &mut K, bytes: &[u8]) -> Result<(), Failed>
-    ensures put { OnOk result (K.held out.new ≡ after_taking bytes.now (K.held out.old)) }
-    ensures no_fault { OnOk result (K.faults out.new ≡ K.faults out.old) }
+    ensures put { OnOk result ((K.seen out.new).held ≡ after_taking bytes.now (K.seen out.old).held) }
+    ensures no_fault { OnOk result ((K.seen out.new).faults ≡ (K.seen out.old).faults) }
     ensures front { OnErr result ((front rest : List ℕ) × (front ++ rest ≡ bytes.now)
-        × (K.held out.new ≡ after_taking front (K.held out.old))) }
-    ensures fault { OnErr result (Rose (K.faults out.old) (K.faults out.new)) }
-    ensures faults_grow { K.faults out.old ≤ K.faults out.new }
+        × ((K.seen out.new).held ≡ after_taking front (K.seen out.old).held)) }
+    ensures fault { OnErr result (Rose (K.seen out.old).faults (K.seen out.new).faults) }
+    ensures faults_grow { (K.seen out.old).faults ≤ (K.seen out.new).faults }
 {
     let mut rest = bytes;
     while !rest.is_empty() {
@@ -30,10 +30,10 @@ pub fn put_all<K: Sink>(out: &mut K, bytes: &[u8]) -> Result<(), Failed>
 
 /// Puts what is gathered out once it is large.
 pub fn put_large<K: Sink>(out: &mut K, gathered: &mut Vec<u8>) -> Result<(), Failed>
-    ensures added { OnOk result (Adds (K.held out.old) (K.held out.new) gathered.old.items gathered.new.items []) }
-    ensures no_fault { OnOk result (K.faults out.new ≡ K.faults out.old) }
-    ensures front { OnErr result (PutsFront (K.held out.old) (K.held out.new) gathered.old.items) }
-    ensures fault { OnErr result (Rose (K.faults out.old) (K.faults out.new)) }
+    ensures added { OnOk result (Adds (K.seen out.old).held (K.seen out.new).held gathered.old.items gathered.new.items []) }
+    ensures no_fault { OnOk result ((K.seen out.new).faults ≡ (K.seen out.old).faults) }
+    ensures front { OnErr result (PutsFront (K.seen out.old).held (K.seen out.new).held gathered.old.items) }
+    ensures fault { OnErr result (Rose (K.seen out.old).faults (K.seen out.new).faults) }
 {
     if gathered.len() >= ENOUGH {
         put_all(out, gathered)?;

@@ -23,20 +23,20 @@ pub fn replay<S: Source, K: Sink>(
     gathered: &mut Vec<u8>,
 ) -> Result<u8, Cut>
     ensures said { IfOk result (λ status. (taken : List ℕ) × (how : How) × (text : List ℕ) × (end : ScriptEnd)
-        × InputTaken (S.told input.old) (S.told input.new) (S.ends input.old) (S.ends input.new) (S.faults input.old) (S.faults input.new) taken (Some how)
+        × InputTaken (S.seen input.old) (S.seen input.new) taken (Some how)
         × Script (lines_of (Some how) (take input_limit taken)) text end
-        × Adds (K.held out.old) (K.held out.new) gathered.old.items gathered.new.items (text ++ (script_last (Some how) end).text)
+        × Adds (K.seen out.old).held (K.seen out.new).held gathered.old.items gathered.new.items (text ++ (script_last (Some how) end).text)
         × (status ≡ (script_last (Some how) end).status)) }
-    ensures no_fault { result ≡ Err Cut.WriteFault ⊎ (K.faults out.new ≡ K.faults out.old) }
+    ensures no_fault { result ≡ Err Cut.WriteFault ⊎ ((K.seen out.new).faults ≡ (K.seen out.old).faults) }
     ensures no_memory { result ≡ Err Cut.NoMemory → (taken : List ℕ) × (how : Option How) × (front : List ℕ)
-        × InputTaken (S.told input.old) (S.told input.new) (S.ends input.old) (S.ends input.new) (S.faults input.old) (S.faults input.new) taken how
+        × InputTaken (S.seen input.old) (S.seen input.new) taken how
         × IsScriptFront how taken front
-        × Adds (K.held out.old) (K.held out.new) gathered.old.items gathered.new.items front }
+        × Adds (K.seen out.old).held (K.seen out.new).held gathered.old.items gathered.new.items front }
     ensures cut { result ≡ Err Cut.WriteFault → (taken : List ℕ) × (how : Option How) × (front : List ℕ)
-        × InputTaken (S.told input.old) (S.told input.new) (S.ends input.old) (S.ends input.new) (S.faults input.old) (S.faults input.new) taken how
+        × InputTaken (S.seen input.old) (S.seen input.new) taken how
         × IsScriptFront how taken front
-        × PutsFront (K.held out.old) (K.held out.new) (gathered.old.items ++ front) }
-    ensures fault { result ≡ Err Cut.WriteFault → Rose (K.faults out.old) (K.faults out.new) }
+        × PutsFront (K.seen out.old).held (K.seen out.new).held (gathered.old.items ++ front) }
+    ensures fault { result ≡ Err Cut.WriteFault → Rose (K.seen out.old).faults (K.seen out.new).faults }
 {
     let script = read_input(alloc, input)?;
     let counted = script.bytes.len().min(INPUT_LIMIT);

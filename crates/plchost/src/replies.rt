@@ -2,7 +2,7 @@ ghost use Rattle.std.specs.Prelude.{◌≡◌, ◌+◌, ◌⊎◌, ℕ, List, �
 ghost use Rattle.link_io.specs.Counts.{Rose};
 ghost use Rattle.script_lines.specs.Scripts.{IsLine};
 ghost use Rattle.script_lines.specs.declared.commands.Command.{Command};
-ghost use Rattle.script_replay.specs.Replays.{Script, after_command, reply_text};
+ghost use Rattle.script_replay.specs.Replays.{Script, after_line, reply_text};
 ghost use Rattle.script_replay.specs.declared.replays.ScriptEnd.{ScriptEnd};
 ghost use Rattle.plchost.specs.Lines.{lines_in};
 ghost use Rattle.plchost.specs.Runs.{Adds, PutsFront};
@@ -24,28 +24,24 @@ fn put_answer<K: Sink>(
     line: &[u8],
 ) -> Result<bool, Cut>
     ensures answered { result ≡ Ok true → (command : Command) × IsLine replay.old.next line.now command
-        × Adds (K.held out.old) (K.held out.new) gathered.old.items gathered.new.items (reply_text replay.old.at command)
-        × (replay.new ≡ record { next = replay.old.next + 1; at = after_command replay.old.at command }) }
+        × Adds (K.seen out.old).held (K.seen out.new).held gathered.old.items gathered.new.items (reply_text replay.old.conn command)
+        × (replay.new ≡ after_line replay.old command) }
     ensures refused { result ≡ Ok false → ((command : Command) → IsLine replay.old.next line.now command → ⊥)
-        × (K.held out.new ≡ K.held out.old) × (gathered.new.items ≡ gathered.old.items) × (replay.new ≡ replay.old) }
-    ensures no_fault { result ≡ Err Cut.WriteFault ⊎ (K.faults out.new ≡ K.faults out.old) }
+        × ((K.seen out.new).held ≡ (K.seen out.old).held) × (gathered.new.items ≡ gathered.old.items) × (replay.new ≡ replay.old) }
+    ensures no_fault { result ≡ Err Cut.WriteFault ⊎ ((K.seen out.new).faults ≡ (K.seen out.old).faults) }
     ensures no_memory { result ≡ Err Cut.NoMemory →
-        (K.held out.new ≡ K.held out.old) × (gathered.new.items ≡ gathered.old.items) }
+        ((K.seen out.new).held ≡ (K.seen out.old).held) × (gathered.new.items ≡ gathered.old.items) }
     ensures cut { result ≡ Err Cut.WriteFault → (command : Command) × IsLine replay.old.next line.now command
-        × PutsFront (K.held out.old) (K.held out.new) (gathered.old.items ++ reply_text replay.old.at command) }
-    ensures fault { result ≡ Err Cut.WriteFault → Rose (K.faults out.old) (K.faults out.new) }
+        × PutsFront (K.seen out.old).held (K.seen out.new).held (gathered.old.items ++ reply_text replay.old.conn command) }
+    ensures fault { result ≡ Err Cut.WriteFault → Rose (K.seen out.old).faults (K.seen out.new).faults }
 {
-    let before = gathered.len();
     match replay.take_line(line, gathered) {
         Ok(()) => {
             put_large(out, gathered)?;
             Ok(true)
         }
         Err(LineFault::Refused) => Ok(false),
-        Err(LineFault::NoMemory) => {
-            gathered.truncate(before);
-            Err(Cut::NoMemory)
-        }
+        Err(LineFault::NoMemory) => Err(Cut::NoMemory),
     }
 }
 
@@ -59,15 +55,15 @@ pub fn put_answers<K: Sink>(
     bytes: &[u8],
 ) -> Result<ScriptEnd, Cut>
     ensures answers { IfOk result (λ end. (text : List ℕ) × Script (lines_in ended bytes.now) text end
-        × Adds (K.held out.old) (K.held out.new) gathered.old.items gathered.new.items text) }
-    ensures no_fault { result ≡ Err Cut.WriteFault ⊎ (K.faults out.new ≡ K.faults out.old) }
+        × Adds (K.seen out.old).held (K.seen out.new).held gathered.old.items gathered.new.items text) }
+    ensures no_fault { result ≡ Err Cut.WriteFault ⊎ ((K.seen out.new).faults ≡ (K.seen out.old).faults) }
     ensures no_memory { result ≡ Err Cut.NoMemory → (front rest : List ℕ) × (end : ScriptEnd)
         × Script (lines_in ended bytes.now) (front ++ rest) end
-        × Adds (K.held out.old) (K.held out.new) gathered.old.items gathered.new.items front }
+        × Adds (K.seen out.old).held (K.seen out.new).held gathered.old.items gathered.new.items front }
     ensures cut { result ≡ Err Cut.WriteFault → (front rest : List ℕ) × (end : ScriptEnd)
         × Script (lines_in ended bytes.now) (front ++ rest) end
-        × PutsFront (K.held out.old) (K.held out.new) (gathered.old.items ++ front) }
-    ensures fault { result ≡ Err Cut.WriteFault → Rose (K.faults out.old) (K.faults out.new) }
+        × PutsFront (K.seen out.old).held (K.seen out.new).held (gathered.old.items ++ front) }
+    ensures fault { result ≡ Err Cut.WriteFault → Rose (K.seen out.old).faults (K.seen out.new).faults }
 {
     let mut replay = Replay::new(alloc);
     let mut rest = bytes;

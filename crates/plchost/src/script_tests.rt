@@ -222,7 +222,7 @@ fn a_script_without_room_for_its_answers_is_a_write_fault(rt: HostRuntime) -> Re
         let mut files = MemShelf::new(Vec::new(rt.alloc()), Vec::new(rt.alloc()));
         let script = Vec::from_slice(rt.alloc(), b"table 2 8 1 64 60000 60000\nask 1 0\n")?;
         let mut source = MemSource::new(script, Vec::new(rt.alloc()));
-        let mut out = MemSink::with_room(rt.alloc(), room, Vec::new(rt.alloc()));
+        let mut out = MemSink::new(rt.alloc(), room, Vec::new(rt.alloc()))?;
         let status = tool_main(rt.alloc(), &words, &mut files, &mut source, &mut out);
         assert_eq!(rt; status, 5, "room {room}");
         let want: &[u8] = b"granted 1\nentries 1\n";

@@ -37,6 +37,9 @@ pub fn string_list(alloc: Global, words: &[&str]) -> Result<StringList, AllocErr
     Ok(list)
 }
 
+/// More bytes than any run here puts out.
+const OUT_ROOM: usize = 1_048_576;
+
 /// Runs the program over a shelf with the one file `p`, in pieces of at most `piece` bytes.
 pub fn run(
     alloc: Global,
@@ -56,7 +59,7 @@ pub fn run(
     let reads = Vec::from_slice(alloc, failing.reads)?;
     let mut source = MemSource::new(Vec::from_slice(alloc, input)?, reads).in_pieces(piece);
     let writes = Vec::from_slice(alloc, failing.writes)?;
-    let mut out = MemSink::new(alloc, writes).in_pieces(piece);
+    let mut out = MemSink::new(alloc, OUT_ROOM, writes)?.in_pieces(piece);
     let status = tool_main(alloc, &words, &mut files, &mut source, &mut out);
     let text = Vec::from_slice(alloc, out.bytes())?;
     Ok(Ran { text, status })
@@ -232,7 +235,7 @@ fn an_output_without_room_is_a_write_fault(rt: HostRuntime) -> Result<(), Fail> 
         let mut files = MemShelf::new(shelved, Vec::new(rt.alloc()));
         let input = Vec::from_slice(rt.alloc(), b"\x01\x00\x02")?;
         let mut source = MemSource::new(input, Vec::new(rt.alloc()));
-        let mut out = MemSink::with_room(rt.alloc(), room, Vec::new(rt.alloc()));
+        let mut out = MemSink::new(rt.alloc(), room, Vec::new(rt.alloc()))?;
         let status = tool_main(rt.alloc(), &words, &mut files, &mut source, &mut out);
         assert_eq!(rt; status, 5, "room {room}");
         let want: &[u8] = b"a = 1\nb = 2\n\n";

@@ -4,7 +4,7 @@ ghost use Rattle.std.specs.Prelude.{◌≡◌};
 ghost use Rattle.std.specs.List.{list_any, prefix_len};
 ghost use Rattle.std.specs.Str.{bytes_eq};
 ghost use Rattle.plchost.specs.FirstForm.{begins_word, reserved};
-ghost use Rattle.plchost.specs.Reading.{Gives, is_in, front, behind, symbol_of, word_of, keyword_of, name_of, width_spelled, number_of};
+ghost use Rattle.plchost.specs.FormReaders.{Gives, is_in, front, behind, symbol_of, word_of, keyword_of, name_of, width_spelled, number_of};
 
 /// The words that no name may be.
 const RESERVED: [&[u8]; 15] = [
@@ -81,7 +81,7 @@ pub fn behind_blanks(text: &[u8]) -> &[u8]
 }
 
 /// What follows the symbol.
-#[tactic(auto, unfolding(crate::specs::Reading::symbol_of))]
+#[tactic(auto, unfolding(crate::specs::FormReaders::symbol_of))]
 pub fn symbol(symbol: u8, text: &[u8]) -> Option<&[u8]>
     ensures { Gives (λ r. r.now) result (symbol_of symbol text.now) }
 {
@@ -90,7 +90,7 @@ pub fn symbol(symbol: u8, text: &[u8]) -> Option<&[u8]>
 }
 
 /// The word, and what follows it.
-#[tactic(auto, unfolding(crate::specs::Reading::word_of))]
+#[tactic(auto, unfolding(crate::specs::FormReaders::word_of))]
 fn word(text: &[u8]) -> Option<(&[u8], &[u8])>
     ensures { Gives (λ r. (r.0.now, r.1.now)) result (word_of text.now) }
 {
@@ -103,7 +103,7 @@ fn word(text: &[u8]) -> Option<(&[u8], &[u8])>
 }
 
 /// What follows this very word.
-#[tactic(auto, unfolding(crate::specs::Reading::keyword_of))]
+#[tactic(auto, unfolding(crate::specs::FormReaders::keyword_of))]
 pub fn keyword<'a>(expected: &[u8], text: &'a [u8]) -> Option<&'a [u8]>
     ensures { Gives (λ r. r.now) result (keyword_of expected.now text.now) }
 {
@@ -118,7 +118,7 @@ fn is_reserved(word: &[u8]) -> bool
 }
 
 /// The name, and what follows it.
-#[tactic(auto, unfolding(crate::specs::Reading::name_of))]
+#[tactic(auto, unfolding(crate::specs::FormReaders::name_of))]
 pub fn name(text: &[u8]) -> Option<(&[u8], &[u8])>
     ensures { Gives (λ r. (r.0.now, r.1.now)) result (name_of text.now) }
 {
@@ -147,7 +147,7 @@ fn width_spelled(digits: &[u8]) -> Option<Width>
 }
 
 /// The width, and what follows it.
-#[tactic(auto, unfolding(crate::specs::Reading::number_of))]
+#[tactic(auto, unfolding(crate::specs::FormReaders::number_of))]
 pub fn number(text: &[u8]) -> Option<(Width, &[u8])>
     ensures { Gives (λ r. (r.0, r.1.now)) result (number_of text.now) }
 {

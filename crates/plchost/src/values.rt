@@ -12,15 +12,12 @@ ghost use Rattle.plchost.specs.Endings.{ending_of, fault_rest};
 use crate::faults::Cut;
 use crate::inputs::INPUT_LIMIT;
 use crate::listings::add_listing;
-use crate::printing::put_all;
+use crate::printing::put_large;
 use link_io::Sink;
 use mspec_meaning::read_plain;
 use mspec_tree::{DefBody, Description, Field};
 use node_tree::{Node, ReadFault, ReadWhy};
 use std::alloc::Global;
-
-/// How many bytes are gathered before they are put out.
-const ENOUGH: usize = 65_536;
 
 /// Why a value is refused: by its reading, or because it ends inside a byte.
 #[derive(Clone, Copy, Debug, PartialEq, Eq)]
@@ -57,23 +54,20 @@ fn put_value<K: Sink>(
     fields: &[Field],
     node: &Node,
 ) -> Result<(), Cut>
-    ensures added { OnOk result (Adds (K.held out.old) (K.held out.new) gathered.old.items gathered.new.items (listing fields.now node.now)) }
-    ensures no_fault { result ≡ Err Cut.WriteFault ⊎ (K.faults out.new ≡ K.faults out.old) }
+    ensures added { OnOk result (Adds (K.seen out.old).held (K.seen out.new).held gathered.old.items gathered.new.items (listing fields.now node.now)) }
+    ensures no_fault { result ≡ Err Cut.WriteFault ⊎ ((K.seen out.new).faults ≡ (K.seen out.old).faults) }
     ensures no_memory { result ≡ Err Cut.NoMemory →
-        (K.held out.new ≡ K.held out.old) × (gathered.new.items ≡ gathered.old.items) }
+        ((K.seen out.new).held ≡ (K.seen out.old).held) × (gathered.new.items ≡ gathered.old.items) }
     ensures cut { result ≡ Err Cut.WriteFault →
-        PutsFront (K.held out.old) (K.held out.new) (gathered.old.items ++ listing fields.now node.now) }
-    ensures fault { result ≡ Err Cut.WriteFault → Rose (K.faults out.old) (K.faults out.new) }
+        PutsFront (K.seen out.old).held (K.seen out.new).held (gathered.old.items ++ listing fields.now node.now) }
+    ensures fault { result ≡ Err Cut.WriteFault → Rose (K.seen out.old).faults (K.seen out.new).faults }
 {
     let before = gathered.len();
     if add_listing(gathered, fields, node).is_err() {
         gathered.truncate(before);
         return Err(Cut::NoMemory);
     }
-    if gathered.len() >= ENOUGH {
-        put_all(out, gathered)?;
-        gathered.clear();
-    }
+    put_large(out, gathered)?;
     Ok(())
 }
 
@@ -106,15 +100,15 @@ pub fn put_values<K: Sink>(
     requires within { length bytes.now ≤ INPUT_LIMIT }
     ensures values { IfOk result (λ rest. (readings : List Reading)
         × Stream d.now def [] bytes.now readings (ending_of rest)
-        × Adds (K.held out.old) (K.held out.new) gathered.old.items gathered.new.items (listings d.now def readings)) }
-    ensures no_fault { result ≡ Err Cut.WriteFault ⊎ (K.faults out.new ≡ K.faults out.old) }
+        × Adds (K.seen out.old).held (K.seen out.new).held gathered.old.items gathered.new.items (listings d.now def readings)) }
+    ensures no_fault { result ≡ Err Cut.WriteFault ⊎ ((K.seen out.new).faults ≡ (K.seen out.old).faults) }
     ensures no_memory { result ≡ Err Cut.NoMemory → (front back : List Reading) × (ending : Ending)
         × Stream d.now def [] bytes.now (front ++ back) ending
-        × Adds (K.held out.old) (K.held out.new) gathered.old.items gathered.new.items (listings d.now def front) }
+        × Adds (K.seen out.old).held (K.seen out.new).held gathered.old.items gathered.new.items (listings d.now def front) }
     ensures cut { result ≡ Err Cut.WriteFault → (front back : List Reading) × (ending : Ending)
         × Stream d.now def [] bytes.now (front ++ back) ending
-        × PutsFront (K.held out.old) (K.held out.new) (gathered.old.items ++ listings d.now def front) }
-    ensures fault { result ≡ Err Cut.WriteFault → Rose (K.faults out.old) (K.faults out.new) }
+        × PutsFront (K.seen out.old).held (K.seen out.new).held (gathered.old.items ++ listings d.now def front) }
+    ensures fault { result ≡ Err Cut.WriteFault → Rose (K.seen out.old).faults (K.seen out.new).faults }
 {
     let fields = fields_of(d, def);
     let mut at = 0;

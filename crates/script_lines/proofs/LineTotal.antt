@@ -2,7 +2,7 @@
 use Rattle.std.proofs.Common.{◌≡◌, ◌⊎◌, ℕ, Bool, true, false, List, Option, Some, None, inl, inr, refl, sym, ap, ◌∙◌}
 use Rattle.std.proofs.lemmas.Bool.{false≢true}
 use Rattle.script_lines.specs.declared.commands.Command.{Command}
-use Rattle.script_lines.specs.Reading.{command_of, is_at}
+use Rattle.script_lines.specs.ReaderParts.{command_of, is_at}
 use Rattle.script_lines.specs.Scripts.{words_of, IsLine}
 use Rattle.script_lines.proofs.PlaceLaws.{at-Decides}
 use Rattle.script_lines.proofs.SpellingLaws.{spelling-complete, spelling-sound}

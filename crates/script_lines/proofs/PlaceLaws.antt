@@ -6,7 +6,7 @@ use Rattle.script_lines.specs.declared.commands.Call.{Call}
 use Rattle.script_lines.specs.declared.commands.Call.TheVariants.{AskLease, Submit, TakeSend, Frame, Cancel, Collect}
 use Rattle.script_lines.specs.declared.commands.Command.{Command}
 use Rattle.script_lines.specs.declared.commands.Command.TheVariants.{Table, Calls}
-use Rattle.script_lines.specs.Reading.{is_further, is_call_at, is_at}
+use Rattle.script_lines.specs.ReaderParts.{is_further, is_call_at, is_at}
 use Rattle.script_lines.specs.Scripts.{IsFurther, IsCallAt, IsAt}
 
 further-Decides : (n : ℕ) → Decides (is_further n) (IsFurther n)

@@ -9,7 +9,7 @@ use Rattle.script_lines.specs.declared.commands.Call.{Call}
 use Rattle.script_lines.specs.declared.commands.Call.TheVariants.{AskLease, Submit, TakeSend, Frame, Cancel, Collect}
 use Rattle.script_lines.specs.declared.commands.Command.{Command}
 use Rattle.script_lines.specs.declared.commands.Command.TheVariants.{Table, Calls}
-use Rattle.script_lines.specs.Reading.{number_of, within_of, hex_of, table_of, pair_of, ask_of, submit_of, send_of, frame_of, cancel_of, collect_of, call_of, command_of}
+use Rattle.script_lines.specs.ReaderParts.{number_of, within_of, hex_of, table_of, pair_of, ask_of, submit_of, send_of, frame_of, cancel_of, collect_of, call_of, command_of}
 use Rattle.script_lines.specs.Scripts.{IsCaller, IsLong, SpellsCall, Spells}
 use Rattle.script_lines.proofs.WordLaws.{number-sound, number-complete, within-sound, within-complete, hex-sound, hex-complete}
 

@@ -7,7 +7,7 @@ use Rattle.std.specs.Str.Parse.{digits_value}
 use Rattle.std.proofs.lemmas.Bool.{and_parts, and_from, cond-true, cond-false, eqb-false, ne_eqb, ltb-true, leb-true, lt-ltb, le-leb}
 use Rattle.std.proofs.lemmas.Option.{option_and_then_some, cond_some}
 use Rattle.hex.specs.Hex.{decode_of}
-use Rattle.script_lines.specs.Reading.{number_of, within_of, hex_of}
+use Rattle.script_lines.specs.ReaderParts.{number_of, within_of, hex_of}
 use Rattle.script_lines.specs.Scripts.{IsWithin, IsLong, IsHex}
 use Rattle.script_lines.proofs.NumberLaws.{digits_model}
 

@@ -1,5 +1,5 @@
 -- Scripts of the request table: what their lines say, and the first form of a script.
-use Rattle.std.specs.Prelude.{◌≡◌, ◌≢◌, ℕ, ◌<◌, ◌≤◌, ◌^◌, ◌==◌, List, [], ◌∷◌, codes, Ok, IsTrue}
+use Rattle.std.specs.Prelude.{◌≡◌, ◌≢◌, ℕ, ◌<◌, ◌≤◌, ◌^◌, ◌==◌, nat_le, Bool, List, [], ◌∷◌, codes, Ok, IsTrue}
 use Rattle.std.specs.List.{slice_split}
 use Rattle.std.specs.Str.Parse.{IsNumeral, digits_value}
 use Rattle.hex.specs.Hex.{decode_of}
@@ -72,7 +72,11 @@ Spells words (Calls call) = SpellsCall words call
 
 -- ---- the first form
 
--- lines count from 1, and there are at most 63
+-- Lines count from 1. The first two must stand: the table, and the lease that is asked for.
+abbrev pub must_stand : ℕ → Bool
+must_stand n = nat_le n 2
+
+-- a line behind these two, up to the 63rd, which is the last
 abbrev pub IsFurther : ℕ → Type 0
 IsFurther n = (3 ≤ n) × (n ≤ 63)
 

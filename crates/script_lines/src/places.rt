@@ -1,10 +1,10 @@
 //! Which command may stand at which line of the first form.
 
 ghost use Rattle.std.specs.Prelude.{◌≡◌};
-ghost use Rattle.script_lines.specs.Reading.{is_at, is_call_at, is_further};
-ghost use Rattle.wire_frames.specs.RawFrames.{is_whole};
+ghost use Rattle.script_lines.specs.ReaderParts.{is_at, is_call_at, is_further};
 
 use crate::commands::{Call, Command};
+use wire_frames::RawWire;
 
 /// The most lines of the first form.
 const MAX_LINES: u64 = 63;
@@ -18,17 +18,6 @@ fn is_further(number: u64) -> bool
     3 <= number && number <= MAX_LINES
 }
 
-/// Whether bytes are one whole raw frame: they state their own length, from 4 to 4,096.
-fn is_whole(frame: &[u8]) -> bool
-    ensures { result ≡ is_whole frame.now }
-{
-    let [high, low, ..] = frame else {
-        return false;
-    };
-    let size = frame.len();
-    u16::from_be_bytes([*high, *low]) as usize == size && 4 <= size && size <= 4096
-}
-
 fn is_call_at(number: u64, call: &Call) -> bool
     ensures { result ≡ is_call_at number call.now }
 {
@@ -36,7 +25,7 @@ fn is_call_at(number: u64, call: &Call) -> bool
         Call::AskLease { caller, now } => number == 2 && *caller == 1 && *now == 0,
         Call::Submit { caller, .. } => is_further(number) && *caller == 1,
         Call::TakeSend => is_further(number),
-        Call::Frame { bytes } => is_further(number) && is_whole(bytes.as_slice()),
+        Call::Frame { bytes } => is_further(number) && RawWire::is_whole(bytes.as_slice()),
         Call::Cancel { caller, .. } => is_further(number) && *caller == 1,
         Call::Collect { caller, .. } => is_further(number) && *caller == 1,
     }

@@ -1,7 +1,7 @@
 //! The command that a line's words spell.
 
 ghost use Rattle.std.specs.Prelude.{◌≡◌, map};
-ghost use Rattle.script_lines.specs.Reading.{Reads, ask_of, call_of, cancel_of, collect_of, command_of, frame_of, pair_of, send_of, submit_of, table_of, within_of};
+ghost use Rattle.script_lines.specs.ReaderParts.{IsGivenBy, ask_of, call_of, cancel_of, collect_of, command_of, frame_of, pair_of, send_of, submit_of, table_of, within_of};
 
 use crate::commands::{Call, Command, LineFault};
 use crate::words::{read_hex, read_number, read_within};
@@ -20,7 +20,7 @@ fn read_caller(word: &[u8]) -> Option<u32>
     Some(read_within(word, 1, 1000)? as u32)
 }
 
-#[tactic(auto, unfolding(crate::specs::Reading::table_of))]
+#[tactic(auto, unfolding(crate::specs::ReaderParts::table_of))]
 fn read_table(words: &[&[u8]]) -> Option<Settings>
     ensures { result ≡ table_of (map (λ w. w.now) words.now) }
 {
@@ -38,7 +38,7 @@ fn read_table(words: &[&[u8]]) -> Option<Settings>
 }
 
 /// A caller, and a number.
-#[tactic(auto, unfolding(crate::specs::Reading::pair_of))]
+#[tactic(auto, unfolding(crate::specs::ReaderParts::pair_of))]
 fn read_pair(words: &[&[u8]]) -> Option<(u32, u64)>
     ensures { result ≡ pair_of (map (λ w. w.now) words.now) }
 {
@@ -48,7 +48,7 @@ fn read_pair(words: &[&[u8]]) -> Option<(u32, u64)>
     Some((read_caller(caller)?, read_number(number)?))
 }
 
-#[tactic(auto, unfolding(crate::specs::Reading::ask_of))]
+#[tactic(auto, unfolding(crate::specs::ReaderParts::ask_of))]
 fn read_ask(words: &[&[u8]]) -> Option<Call>
     ensures { result ≡ ask_of (map (λ w. w.now) words.now) }
 {
@@ -56,7 +56,7 @@ fn read_ask(words: &[&[u8]]) -> Option<Call>
     Some(Call::AskLease { caller, now })
 }
 
-#[tactic(auto, unfolding(crate::specs::Reading::cancel_of))]
+#[tactic(auto, unfolding(crate::specs::ReaderParts::cancel_of))]
 fn read_cancel(words: &[&[u8]]) -> Option<Call>
     ensures { result ≡ cancel_of (map (λ w. w.now) words.now) }
 {
@@ -64,7 +64,7 @@ fn read_cancel(words: &[&[u8]]) -> Option<Call>
     Some(Call::Cancel { caller, id })
 }
 
-#[tactic(auto, unfolding(crate::specs::Reading::collect_of))]
+#[tactic(auto, unfolding(crate::specs::ReaderParts::collect_of))]
 fn read_collect(words: &[&[u8]]) -> Option<Call>
     ensures { result ≡ collect_of (map (λ w. w.now) words.now) }
 {
@@ -72,7 +72,7 @@ fn read_collect(words: &[&[u8]]) -> Option<Call>
     Some(Call::Collect { caller, id })
 }
 
-#[tactic(auto, unfolding(crate::specs::Reading::send_of))]
+#[tactic(auto, unfolding(crate::specs::ReaderParts::send_of))]
 fn read_send(words: &[&[u8]]) -> Option<Call>
     ensures { result ≡ send_of (map (λ w. w.now) words.now) }
 {
@@ -83,9 +83,9 @@ fn read_send(words: &[&[u8]]) -> Option<Call>
     }
 }
 
-#[tactic(auto, unfolding(crate::specs::Reading::frame_of))]
+#[tactic(auto, unfolding(crate::specs::ReaderParts::frame_of))]
 fn read_frame(alloc: Global, words: &[&[u8]]) -> Result<Call, LineFault>
-    ensures { Reads result (frame_of (map (λ w. w.now) words.now)) }
+    ensures { IsGivenBy result (frame_of (map (λ w. w.now) words.now)) }
 {
     let [bytes] = words else {
         return Err(LineFault::Refused);
@@ -94,9 +94,9 @@ fn read_frame(alloc: Global, words: &[&[u8]]) -> Result<Call, LineFault>
     Ok(Call::Frame { bytes })
 }
 
-#[tactic(auto, unfolding(crate::specs::Reading::submit_of))]
+#[tactic(auto, unfolding(crate::specs::ReaderParts::submit_of))]
 fn read_submit(alloc: Global, words: &[&[u8]]) -> Result<Call, LineFault>
-    ensures { Reads result (submit_of (map (λ w. w.now) words.now)) }
+    ensures { IsGivenBy result (submit_of (map (λ w. w.now) words.now)) }
 {
     let [caller, lease, now, timeout_ms, payload] = words else {
         return Err(LineFault::Refused);
@@ -115,9 +115,9 @@ fn read_submit(alloc: Global, words: &[&[u8]]) -> Result<Call, LineFault>
     })
 }
 
-#[tactic(auto, unfolding(crate::specs::Reading::call_of))]
+#[tactic(auto, unfolding(crate::specs::ReaderParts::call_of))]
 fn read_call(alloc: Global, name: &[u8], words: &[&[u8]]) -> Result<Call, LineFault>
-    ensures { Reads result (call_of name.now (map (λ w. w.now) words.now)) }
+    ensures { IsGivenBy result (call_of name.now (map (λ w. w.now) words.now)) }
 {
     if name == b"ask".as_slice() {
         read_ask(words).ok_or(LineFault::Refused)
@@ -137,9 +137,9 @@ fn read_call(alloc: Global, name: &[u8], words: &[&[u8]]) -> Result<Call, LineFa
 }
 
 /// The command that the words of a line spell.
-#[tactic(auto, unfolding(crate::specs::Reading::command_of))]
+#[tactic(auto, unfolding(crate::specs::ReaderParts::command_of))]
 pub fn read_words(alloc: Global, words: &[&[u8]]) -> Result<Command, LineFault>
-    ensures { Reads result (command_of (map (λ w. w.now) words.now)) }
+    ensures { IsGivenBy result (command_of (map (λ w. w.now) words.now)) }
 {
     let [name, words @ ..] = words else {
         return Err(LineFault::Refused);

@@ -1,7 +1,7 @@
 //! The words of a line, and what they stand for.
 
 ghost use Rattle.std.specs.Prelude.{◌≡◌, ◌≤◌, IfOk, IfSome, map, take};
-ghost use Rattle.script_lines.specs.Reading.{Reads, hex_of, number_of, within_of};
+ghost use Rattle.script_lines.specs.ReaderParts.{IsGivenBy, hex_of, number_of, within_of};
 ghost use Rattle.script_lines.specs.Scripts.{words_of};
 
 use crate::commands::LineFault;
@@ -32,7 +32,7 @@ pub fn read_number(word: &[u8]) -> Option<u64>
     str::from_utf8(word).ok()?.parse::<u64>().ok()
 }
 
-#[tactic(auto, unfolding(crate::specs::Reading::within_of))]
+#[tactic(auto, unfolding(crate::specs::ReaderParts::within_of))]
 pub fn read_within(word: &[u8], low: u64, high: u64) -> Option<u64>
     ensures read { result ≡ within_of low high word.now }
     ensures within { IfSome result (λ n. (low ≤ n) × (n ≤ high)) }
@@ -46,9 +46,9 @@ pub fn read_within(word: &[u8], low: u64, high: u64) -> Option<u64>
 }
 
 /// The bytes of one or more pairs of hexadecimal digits.
-#[tactic(auto, unfolding(crate::specs::Reading::hex_of))]
+#[tactic(auto, unfolding(crate::specs::ReaderParts::hex_of))]
 pub fn read_hex(alloc: Global, word: &[u8]) -> Result<ByteList, LineFault>
-    ensures { Reads result (hex_of word.now) }
+    ensures { IsGivenBy result (hex_of word.now) }
 {
     if word.is_empty() {
         return Err(LineFault::Refused);

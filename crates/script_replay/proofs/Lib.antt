@@ -1,1 +1,4 @@
+pub mod OpenLaws
 pub mod ReplyLaws
+pub mod ScriptLaws
+pub mod UnwornLaws

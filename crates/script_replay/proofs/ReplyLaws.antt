@@ -7,12 +7,12 @@ use Rattle.script_replay.specs.Replays.{Replies, after_command, entries, reply_t
 use Rattle.script_replay.specs.declared.replays.ScriptEnd.{ScriptEnd}
 use Rattle.script_replay.specs.declared.replays.ScriptEnd.TheVariants.{Answered, Refused}
 
-pub some_replies : (n : ℕ) (at : Option (State RawWire)) (lines : List (List ℕ)) → (text : List ℕ) × (end : ScriptEnd) × Replies n at lines text end
-some_replies n at [] = ([], Answered n (entries at), (refl, refl))
-some_replies n at (line ∷ lines) =
+pub some_replies : (n : ℕ) (conn : Option (State RawWire)) (lines : List (List ℕ)) → (text : List ℕ) × (end : ScriptEnd) × Replies n conn lines text end
+some_replies n conn [] = ([], Answered n (entries conn), (refl, refl))
+some_replies n conn (line ∷ lines) =
     elim (line_decided n line) [
       | inl found ↦
-          let rest = some_replies (n + 1) (after_command at found.0) lines in
-          (reply_text at found.0 ++ rest.0, rest.1, inl (found.0, rest.0, found.1, refl, rest.2))
+          let rest = some_replies (n + 1) (after_command conn found.0) lines in
+          (reply_text conn found.0 ++ rest.0, rest.1, inl (found.0, rest.0, found.1, refl, rest.2))
       | inr none ↦ ([], Refused n, inr (none, refl, refl))
     ]

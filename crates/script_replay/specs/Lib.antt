@@ -1,2 +1,3 @@
 pub mod Replays
+pub mod ReplyTexts
 pub mod Timed

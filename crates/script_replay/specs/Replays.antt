@@ -1,10 +1,11 @@
 -- What the lines of a script are answered, by the steps of the request table over the raw wire.
-use Rattle.std.specs.Prelude.{◌≡◌, ◌⊎◌, ℕ, ◌+◌, if◌then◌else◌, List, [], ◌∷◌, ◌++◌, length, codes, Option, Some, None}
+use Rattle.std.specs.Prelude.{◌≡◌, ◌⊎◌, ℕ, ◌+◌, ◌≤◌, if◌then◌else◌, List, [], ◌∷◌, ◌++◌, length, codes, Option, Some, None}
 use Rattle.wire_frames.specs.RawFrames.{raw_admits, raw_meaning}
 use Rattle.wire_frames.specs.WireMeaning.{WireMeaning}
 use Rattle.wire_frames.specs.declared.asks.Ask.TheVariants.{Raw}
 use Rattle.wire_frames.specs.declared.raw.RawWire.{RawWire}
-use Rattle.conn_core.specs.States.{State, state_after, table_in}
+use Rattle.conn_core.specs.Journals.{Legal}
+use Rattle.conn_core.specs.States.{State, connection_of, state_after, table_in}
 use Rattle.conn_core.specs.Steps.{accepted_of, answer_of, apply_frame, ask_lease, cancel, collect, submit, take_send}
 use Rattle.conn_core.specs.declared.entries.Event.{Event}
 use Rattle.conn_core.specs.declared.entries.Event.TheVariants as events
@@ -28,7 +29,7 @@ opened s = record { key = record { wire = record {}; settings = s }; journal = [
 
 -- ---- a call
 
--- Callers act as themselves; nobody's calls, of sendings and frames, act as 0.
+-- Callers act as themselves; `send` and `frame` act as 0.
 abbrev pub actor_of : Call → ℕ
 actor_of (AskLease caller now) = caller
 actor_of (Submit caller lease now timeout payload) = caller
@@ -52,7 +53,7 @@ submit_text st caller lease now timeout payload =
     then submitted_text (accepted_of (answer_of (submit raw_meaning (table_in raw st) (record { actor = caller; lease = lease; ask = Raw payload; timeout = timeout; moment = now }))))
     else codes "not admitted"
 
--- what a call is answered; the calls are those of the table's step
+-- what a call is answered
 abbrev pub answer_text : State RawWire → Call → List ℕ
 answer_text st (AskLease caller now) = asked_text (answer_of (ask_lease st.key.settings (table_in raw st) caller now))
 answer_text st (Submit caller lease now timeout payload) = submit_text st caller lease now timeout payload
@@ -79,31 +80,50 @@ after_call st (Collect caller id) = stepped st (Collect caller id)
 
 -- The table line makes the connection, and has no answer. Before it there is none, and no other line stands there.
 abbrev pub after_command : Option (State RawWire) → Command → Option (State RawWire)
-after_command at (TableLine s) = Some (opened s)
+after_command conn (TableLine s) = Some (opened s)
 after_command (Some st) (Calls call) = Some (after_call st call)
 after_command None (Calls call) = None
 
--- a line for each answer
+-- A line for each answer. No script has the last case, so it has no text: a call stands behind the table alone.
 abbrev pub reply_text : Option (State RawWire) → Command → List ℕ
-reply_text at (TableLine s) = []
+reply_text conn (TableLine s) = []
 reply_text (Some st) (Calls call) = answer_text st call ++ codes "\n"
 reply_text None (Calls call) = []
 
 -- where a script is: the number of its next line, and the connection, once there is one
 pub record Position : Type 0 where
   pub next : ℕ
-  pub at : Option (State RawWire)
+  pub conn : Option (State RawWire)
+
+-- where it is once its next line was this command
+abbrev pub after_line : Position → Command → Position
+after_line p command = record { next = p.next + 1; conn = after_command p.conn command }
+
+-- These lines all stand, and lead from the one place to the other.
+abbrev pub Leads : Position → List (List ℕ) → Position → Type 0
+Leads here [] there = there ≡ here
+Leads here (line ∷ lines) there =
+    (command : Command) × IsLine here.next line command × Leads (after_line here command) lines there
 
 -- how many entries the journal has, where there is a connection
 abbrev pub entries : Option (State RawWire) → ℕ
 entries None = 0
 entries (Some st) = length st.journal
 
+-- A connection that a script in the first form has come to before its line `next`: its journal is legal and has at most one
+-- entry for each line behind the first, so fewer than its limit, and it is open.
+pub record IsUnworn (next : ℕ) (st : State RawWire) : Type 0 where
+  pub legal : Legal (connection_of raw st.key) st.journal
+  pub few : length st.journal + 2 ≤ next
+  pub last : next ≤ 64
+  pub limit : 64 ≤ st.key.settings.journal
+  pub unclosed : (table_in raw st).closed ≡ None
+
 -- From the line with this number on, these lines are answered by this text, up to the first that is refused.
 abbrev pub Replies : (n : ℕ) → Option (State RawWire) → List (List ℕ) → (text : List ℕ) → ScriptEnd → Type 0
-Replies n at [] text end = (text ≡ []) × (end ≡ Answered n (entries at))
-Replies n at (line ∷ lines) text end =
-    ((command : Command) × (rest : List ℕ) × IsLine n line command × (text ≡ reply_text at command ++ rest) × Replies (n + 1) (after_command at command) lines rest end)
+Replies n conn [] text end = (text ≡ []) × (end ≡ Answered n (entries conn))
+Replies n conn (line ∷ lines) text end =
+    ((command : Command) × (rest : List ℕ) × IsLine n line command × (text ≡ reply_text conn command ++ rest) × Replies (n + 1) (after_command conn command) lines rest end)
     ⊎ (((command : Command) → IsLine n line command → ⊥) × (text ≡ []) × (end ≡ Refused n))
 
 -- a script, from its first line on

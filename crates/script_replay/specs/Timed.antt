@@ -1,4 +1,5 @@
--- What making a table, and handing in a request, need of their numbers.
+-- What making a table, and handing in a request, need of their numbers. Each line of a script in the first form has it, and
+-- only the private functions that run a line ask for it.
 use Rattle.std.specs.Prelude.{◌≤◌}
 use Rattle.script_lines.specs.declared.commands.Call.{Call}
 use Rattle.script_lines.specs.declared.commands.Call.TheVariants.{AskLease, Submit, TakeSend, Frame, Cancel, Collect}
@@ -6,16 +7,16 @@ use Rattle.script_lines.specs.declared.commands.Command.{Command}
 use Rattle.script_lines.specs.declared.commands.Command.TheVariants.{Table, Calls}
 use Rattle.conn_core.specs.Tables.{IsSettings}
 
--- a request ends within an hour
-abbrev pub IsTimed : Call → Type 0
-IsTimed (AskLease caller now) = Unit {0}
-IsTimed (Submit caller lease now timeout payload) = (1 ≤ timeout) × (timeout ≤ 3600000)
-IsTimed TakeSend = Unit {0}
-IsTimed (Frame bytes) = Unit {0}
-IsTimed (Cancel caller id) = Unit {0}
-IsTimed (Collect caller id) = Unit {0}
+-- the timeout of a request is from 1 ms to an hour
+abbrev pub HasTimeout : Call → Type 0
+HasTimeout (AskLease caller now) = Unit {0}
+HasTimeout (Submit caller lease now timeout payload) = (1 ≤ timeout) × (timeout ≤ 3600000)
+HasTimeout TakeSend = Unit {0}
+HasTimeout (Frame bytes) = Unit {0}
+HasTimeout (Cancel caller id) = Unit {0}
+HasTimeout (Collect caller id) = Unit {0}
 
 -- the ranges that a connection and its calls need
 abbrev pub IsInRanges : Command → Type 0
 IsInRanges (Table s) = IsSettings s
-IsInRanges (Calls call) = IsTimed call
+IsInRanges (Calls call) = HasTimeout call

@@ -1,150 +1,137 @@
-ghost use Rattle.std.specs.Prelude.{◌≡◌, ◌≤◌, ◌++◌, take, length, codes, MatchResult};
+//! The calls of a script on its connection.
+
+ghost use Rattle.std.specs.Prelude.{◌≡◌, ◌≤◌, MatchResult};
 ghost use Rattle.conn_core.specs.States.{state_after, table_in};
-ghost use Rattle.conn_core.specs.Steps.{accepted_of, answer_of, apply_frame, ask_lease, cancel, collect, submit, take_send};
+ghost use Rattle.conn_core.specs.Steps.{answer_of, apply_frame, ask_lease, cancel, collect, take_send};
 ghost use Rattle.conn_core.specs.declared.entries.Event.TheVariants as events;
-ghost use Rattle.answer_texts.specs.Answers.{asked_text, cancelled_text, collected_text, received_text, sent_text};
-ghost use Rattle.script_replay.specs.Replays.{after_call, answer_text, raw, submit_text};
-ghost use Rattle.script_replay.specs.Timed.{IsTimed};
+ghost use Rattle.script_replay.specs.Replays.{after_call, after_command, answer_text, raw, reply_text, submit_text};
+ghost use Rattle.script_replay.specs.ReplyTexts.{spelled, spelled_line};
+ghost use Rattle.script_replay.specs.Timed.{HasTimeout, IsInRanges};
 ghost use Rattle.script_lines.specs.declared.commands.Call.TheVariants as calls;
 ghost use Rattle.wire_frames.specs.RawFrames.{raw_meaning};
 
-use answer_texts::{
-    add_asked, add_cancelled, add_collected, add_received, add_sent, add_submitted,
-};
+use crate::replies::Reply;
 use conn_core::{AskRefusal, ConnState, FrameRefusal, SubmitRefusal};
 use node_tree::ByteList;
-use script_lines::Call;
-use std::alloc::AllocError;
+use script_lines::{Call, Command};
+use std::alloc::{AllocError, Global};
 use wire_frames::{Ask, RawWire};
 
 /// A connection of the raw wire.
 type Conn = ConnState<RawWire>;
 
-fn ask_lease(conn: &mut Conn, caller: u32, now: u64, text: &mut Vec<u8>) -> Result<(), AllocError>
+fn answer_ask(conn: &mut Conn, caller: u32, now: u64) -> Result<Reply, AllocError>
     ensures { MatchResult result
-        (λ _. (text.new.items ≡ text.old.items ++ asked_text (answer_of (ask_lease conn.old.key.settings (table_in raw conn.old) caller now)))
+        (λ reply. (reply ≡ Reply.Asked (answer_of (ask_lease conn.old.key.settings (table_in raw conn.old) caller now)))
         × (conn.new ≡ state_after raw conn.old caller (events.AskLease now)))
-        (λ _. take (length text.old.items) text.new.items ≡ text.old.items) }
+        (λ _. conn.new ≡ conn.old) }
 {
-    let answer = conn.ask_lease(caller, now);
-    if matches!(answer, Err(AskRefusal::NoMemory)) {
-        return Err(AllocError);
+    match conn.ask_lease(caller, now) {
+        Err(AskRefusal::NoMemory) => Err(AllocError),
+        answer => Ok(Reply::Asked(answer)),
     }
-    add_asked(text, &answer)
 }
 
-/// A request to send a payload, as a line of a script hands it in.
-#[derive(Clone, Copy, Debug)]
-struct Asked {
+fn answer_submit(
+    conn: &mut Conn,
     caller: u32,
     lease: u64,
     now: u64,
     timeout_ms: u32,
-}
-
-fn submit(
-    conn: &mut Conn,
-    asked: Asked,
     payload: ByteList,
-    text: &mut Vec<u8>,
-) -> Result<(), AllocError>
-    requires { (1 ≤ asked.timeout_ms) × (asked.timeout_ms ≤ 3600000) }
+) -> Result<Reply, AllocError>
+    requires { (1 ≤ timeout_ms) × (timeout_ms ≤ 3600000) }
     ensures { MatchResult result
-        (λ _. (text.new.items ≡ text.old.items ++ submit_text conn.old asked.caller asked.lease asked.now asked.timeout_ms payload)
-        × (conn.new ≡ after_call conn.old (calls.Submit asked.caller asked.lease asked.now asked.timeout_ms payload)))
-        (λ _. take (length text.old.items) text.new.items ≡ text.old.items) }
+        (λ reply. (spelled reply ≡ submit_text conn.old caller lease now timeout_ms payload)
+        × (conn.new ≡ after_call conn.old (calls.Submit caller lease now timeout_ms payload)))
+        (λ _. conn.new ≡ conn.old) }
 {
     let ask = Ask::Raw(payload);
     if !conn.admits(&ask) {
-        return text.extend_from_slice(b"not admitted");
+        return Ok(Reply::NotAdmitted);
     }
-    let answer = conn.submit(asked.caller, asked.lease, ask, asked.timeout_ms, asked.now);
-    if matches!(answer, Err(SubmitRefusal::NoMemory)) {
-        return Err(AllocError);
+    match conn.submit(caller, lease, ask, timeout_ms, now) {
+        Err(SubmitRefusal::NoMemory) => Err(AllocError),
+        answer => Ok(Reply::Submitted(answer)),
     }
-    add_submitted(text, &answer)
 }
 
-fn take_send(conn: &mut Conn, text: &mut Vec<u8>) -> Result<(), AllocError>
-    ensures { MatchResult result
-        (λ _. (text.new.items ≡ text.old.items ++ sent_text (answer_of (take_send conn.old.key.settings (table_in raw conn.old))))
-        × (conn.new ≡ state_after raw conn.old 0 events.TakeSend))
-        (λ _. take (length text.old.items) text.new.items ≡ text.old.items) }
+fn answer_send(conn: &mut Conn) -> Reply
+    ensures reply { result ≡ Reply.Sent (answer_of (take_send conn.old.key.settings (table_in raw conn.old))) }
+    ensures conn { conn.new ≡ state_after raw conn.old 0 events.TakeSend }
 {
-    let answer = conn.take_send(0);
-    add_sent(text, &answer)
+    Reply::Sent(conn.take_send(0))
 }
 
-fn apply_frame(conn: &mut Conn, bytes: ByteList, text: &mut Vec<u8>) -> Result<(), AllocError>
+fn answer_frame(conn: &mut Conn, bytes: ByteList) -> Result<Reply, AllocError>
     ensures { MatchResult result
-        (λ _. (text.new.items ≡ text.old.items ++ received_text (answer_of (apply_frame raw_meaning (table_in raw conn.old) bytes)))
+        (λ reply. (reply ≡ Reply.Received (answer_of (apply_frame raw_meaning (table_in raw conn.old) bytes)))
         × (conn.new ≡ state_after raw conn.old 0 (events.Frame bytes)))
-        (λ _. take (length text.old.items) text.new.items ≡ text.old.items) }
+        (λ _. conn.new ≡ conn.old) }
 {
-    let answer = conn.apply_frame(0, bytes);
-    if matches!(answer, Err(FrameRefusal::NoMemory)) {
-        return Err(AllocError);
+    match conn.apply_frame(0, bytes) {
+        Err(FrameRefusal::NoMemory) => Err(AllocError),
+        answer => Ok(Reply::Received(answer)),
     }
-    add_received(text, &answer)
 }
 
-fn cancel(conn: &mut Conn, caller: u32, id: u64, text: &mut Vec<u8>) -> Result<(), AllocError>
-    ensures { MatchResult result
-        (λ _. (text.new.items ≡ text.old.items ++ cancelled_text (answer_of (cancel (table_in raw conn.old) caller id)))
-        × (conn.new ≡ state_after raw conn.old caller (events.Cancel id)))
-        (λ _. take (length text.old.items) text.new.items ≡ text.old.items) }
+fn answer_cancel(conn: &mut Conn, caller: u32, id: u64) -> Reply
+    ensures reply { result ≡ Reply.Cancelled (answer_of (cancel (table_in raw conn.old) caller id)) }
+    ensures conn { conn.new ≡ state_after raw conn.old caller (events.Cancel id) }
 {
-    let answer = conn.cancel(caller, id);
-    add_cancelled(text, &answer)
+    Reply::Cancelled(conn.cancel(caller, id))
 }
 
-fn collect(conn: &mut Conn, caller: u32, id: u64, text: &mut Vec<u8>) -> Result<(), AllocError>
-    ensures { MatchResult result
-        (λ _. (text.new.items ≡ text.old.items ++ collected_text (answer_of (collect (table_in raw conn.old) caller id)))
-        × (conn.new ≡ state_after raw conn.old caller (events.Collect id)))
-        (λ _. take (length text.old.items) text.new.items ≡ text.old.items) }
+fn answer_collect(conn: &mut Conn, caller: u32, id: u64) -> Reply
+    ensures reply { result ≡ Reply.Collected (answer_of (collect (table_in raw conn.old) caller id)) }
+    ensures conn { conn.new ≡ state_after raw conn.old caller (events.Collect id) }
 {
-    let answer = conn.collect(caller, id);
-    add_collected(text, &answer)
+    Reply::Collected(conn.collect(caller, id))
 }
 
-fn add_answer(conn: &mut Conn, call: Call, text: &mut Vec<u8>) -> Result<(), AllocError>
-    requires { IsTimed call }
+/// Makes a call on a connection. Want of memory leaves the connection as it was.
+fn answer_call(conn: &mut Conn, call: Call) -> Result<Reply, AllocError>
+    requires { HasTimeout call }
     ensures { MatchResult result
-        (λ _. (text.new.items ≡ text.old.items ++ answer_text conn.old call) × (conn.new ≡ after_call conn.old call))
-        (λ _. take (length text.old.items) text.new.items ≡ text.old.items) }
+        (λ reply. (spelled reply ≡ answer_text conn.old call) × (conn.new ≡ after_call conn.old call))
+        (λ _. conn.new ≡ conn.old) }
 {
     match call {
-        Call::AskLease { caller, now } => ask_lease(conn, caller, now, text),
+        Call::AskLease { caller, now } => answer_ask(conn, caller, now),
         Call::Submit {
             caller,
             lease,
             now,
             timeout_ms,
             payload,
-        } => {
-            let asked = Asked {
-                caller,
-                lease,
-                now,
-                timeout_ms,
-            };
-            submit(conn, asked, payload, text)
-        }
-        Call::TakeSend => take_send(conn, text),
-        Call::Frame { bytes } => apply_frame(conn, bytes, text),
-        Call::Cancel { caller, id } => cancel(conn, caller, id, text),
-        Call::Collect { caller, id } => collect(conn, caller, id, text),
+        } => answer_submit(conn, caller, lease, now, timeout_ms, payload),
+        Call::TakeSend => Ok(answer_send(conn)),
+        Call::Frame { bytes } => answer_frame(conn, bytes),
+        Call::Cancel { caller, id } => Ok(answer_cancel(conn, caller, id)),
+        Call::Collect { caller, id } => Ok(answer_collect(conn, caller, id)),
     }
 }
 
-/// Makes a call on a connection, and adds a line with its answer. An `Err` leaves a text that begins as before.
-pub(crate) fn answer_call(conn: &mut Conn, call: Call, text: &mut Vec<u8>) -> Result<(), AllocError>
-    requires { IsTimed call }
+/// Runs a command, which makes the connection or is a call on it, and gives the reply, if it has one. Want of memory leaves
+/// the connection as it was.
+pub(crate) fn run_command(
+    alloc: Global,
+    conn: &mut Option<Conn>,
+    command: Command,
+) -> Result<Option<Reply>, AllocError>
+    requires { IsInRanges command }
     ensures { MatchResult result
-        (λ _. (text.new.items ≡ text.old.items ++ answer_text conn.old call ++ codes "\n") × (conn.new ≡ after_call conn.old call))
-        (λ _. take (length text.old.items) text.new.items ≡ text.old.items) }
+        (λ reply. (spelled_line reply ≡ reply_text conn.old command) × (conn.new ≡ after_command conn.old command))
+        (λ _. conn.new ≡ conn.old) }
 {
-    add_answer(conn, call, text)?;
-    text.extend_from_slice(b"\n")
+    match command {
+        Command::Table(settings) => {
+            *conn = Some(ConnState::new(alloc, RawWire, settings)?);
+            Ok(None)
+        }
+        Command::Calls(call) => match conn {
+            Some(conn) => Ok(Some(answer_call(conn, call)?)),
+            None => Ok(None),
+        },
+    }
 }

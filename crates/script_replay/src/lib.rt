@@ -2,8 +2,11 @@
 #![tactic(auto)]
 
 mod calls;
+mod laws;
 mod replays;
+mod replies;
 #[cfg(test)]
 mod tests;
 
+pub use laws::{one_script, stays_open};
 pub use replays::{Replay, ScriptEnd};

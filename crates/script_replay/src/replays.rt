@@ -1,20 +1,20 @@
-ghost use Rattle.std.specs.Prelude.{◌≡◌, ◌+◌, ◌++◌, take, length, None, Err, OnOk, MatchOption, MatchResult};
-ghost use Rattle.conn_core.specs.Journals.{Legal};
-ghost use Rattle.conn_core.specs.States.{connection_of};
-ghost use Rattle.script_lines.specs.Scripts.{IsLine};
+ghost use Rattle.std.specs.Prelude.{◌≡◌, ◌⊎◌, ◌++◌, None, Err, OnOk, MatchOption, MatchResult};
+ghost use Rattle.script_lines.specs.Scripts.{IsAt, IsLine};
 ghost use Rattle.script_lines.specs.declared.commands.Command.{Command};
-ghost use Rattle.script_replay.specs.Replays.{after_command, entries, raw, reply_text};
+ghost use Rattle.script_replay.specs.Replays.{IsUnworn, after_line, entries, reply_text};
+ghost use Rattle.script_replay.specs.ReplyTexts.{spelled_line};
 ghost use Rattle.script_replay.specs.Timed.{IsInRanges};
 
-use crate::calls::answer_call;
+use crate::calls::run_command;
+use crate::replies::{Reply, add_line};
 use conn_core::ConnState;
 use script_lines::{Command, LineFault, read_command};
 use std::alloc::{AllocError, Global};
 use std::marker::Model;
 use wire_frames::RawWire;
 
-/// How a script's lines end: all were answered, the next one would be line `next`, and the journal has so many entries; or
-/// a line is refused.
+/// How a script's lines end, as the program that runs them through a [`Replay`] tells it: all were answered, the next one
+/// would be line `next`, and the journal has so many entries; or a line is refused.
 #[derive(Clone, Copy, Debug, PartialEq, Eq)]
 pub enum ScriptEnd {
     Answered { next: u64, entries: u64 },
@@ -31,20 +31,20 @@ pub struct Replay {
 }
 
 impl Model for Replay {
-    ghost use Rattle.std.specs.Prelude.{◌≤◌};
-    ghost use Rattle.script_replay.specs.Replays.{Position};
+    ghost use Rattle.std.specs.Prelude.{◌≡◌, MatchOption};
+    ghost use Rattle.script_replay.specs.Replays.{IsUnworn, Position};
 
     ghost Value = { Position };
 
-    ghost view = { λ r. record { next = r.next; at = r.conn } };
+    ghost view = { λ r. record { next = r.next; conn = r.conn } };
 
-    ghost invariant = { λ r. r.next ≤ 64 };
+    ghost invariant = { λ r. MatchOption r.conn (r.next ≡ 1) (λ state. IsUnworn r.next state) };
 }
 
 impl Replay {
     /// A script of which no line was read.
     pub fn new(alloc: Global) -> Replay
-        ensures { result ≡ record { next = 1; at = None } }
+        ensures { result ≡ record { next = 1; conn = None } }
     {
         Replay {
             alloc,
@@ -60,10 +60,11 @@ impl Replay {
         self.next
     }
 
-    /// How many entries the connection's journal has, 0 where there is no connection yet. The journal is legal.
+    /// How many entries the connection's journal has, 0 where there is no connection yet. The journal is legal and below
+    /// its limit, and the connection is open.
     pub fn entries(&self) -> u64
-        ensures entries { result ≡ entries self.now.at }
-        ensures legal { MatchOption self.now.at (Unit {0}) (λ state. Legal (connection_of raw state.key) state.journal) }
+        ensures entries { result ≡ entries self.now.conn }
+        ensures unworn { MatchOption self.now.conn (self.now.next ≡ 1) (λ state. IsUnworn self.now.next state) }
     {
         match &self.conn {
             Some(conn) => conn.journal().len() as u64,
@@ -72,39 +73,33 @@ impl Replay {
     }
 
     /// Takes the next line, without its end, and adds its answer to a text. A line that is refused changes nothing. Want
-    /// of memory leaves a text that begins as before, but the call may have been made all the same: take no further line
-    /// then.
+    /// of memory leaves the text as it was; either nothing else was changed, or the line was run and counted and only its
+    /// answer is missing from the text.
     pub fn take_line(&mut self, line: &[u8], text: &mut Vec<u8>) -> Result<(), LineFault>
         ensures answered { OnOk result ((command : Command) × IsLine self.old.next line.now command
-            × (text.new.items ≡ text.old.items ++ reply_text self.old.at command)
-            × (self.new ≡ record { next = self.old.next + 1; at = after_command self.old.at command })) }
+            × (text.new.items ≡ text.old.items ++ reply_text self.old.conn command)
+            × (self.new ≡ after_line self.old command)) }
         ensures refused { result ≡ Err LineFault.Refused → ((command : Command) → IsLine self.old.next line.now command → ⊥)
             × (text.new.items ≡ text.old.items) × (self.new ≡ self.old) }
-        ensures no_memory { result ≡ Err LineFault.NoMemory → take (length text.old.items) text.new.items ≡ text.old.items }
+        ensures no_memory { result ≡ Err LineFault.NoMemory → (text.new.items ≡ text.old.items)
+            × ((self.new ≡ self.old) ⊎ ((command : Command) × IsLine self.old.next line.now command × (self.new ≡ after_line self.old command))) }
     {
         let command = read_command(self.alloc, self.next, line)?;
-        self.run(command, text)?;
-        self.next += 1;
+        let reply = self.run(command)?;
+        add_line(text, &reply)?;
         Ok(())
     }
 
-    /// Runs a command, and adds its answer to a text.
-    fn run(&mut self, command: Command, text: &mut Vec<u8>) -> Result<(), AllocError>
-        requires { IsInRanges command }
+    /// Runs a command and counts its line, and gives the reply, if it has one. Want of memory changes nothing.
+    fn run(&mut self, command: Command) -> Result<Option<Reply>, AllocError>
+        requires ranges { IsInRanges command }
+        requires place { IsAt self.old.next command }
         ensures { MatchResult result
-            (λ _. (text.new.items ≡ text.old.items ++ reply_text self.old.at command)
-            × (self.new ≡ record { next = self.old.next; at = after_command self.old.at command }))
-            (λ _. take (length text.old.items) text.new.items ≡ text.old.items) }
+            (λ reply. (spelled_line reply ≡ reply_text self.old.conn command) × (self.new ≡ after_line self.old command))
+            (λ _. self.new ≡ self.old) }
     {
-        match command {
-            Command::Table(settings) => {
-                self.conn = Some(ConnState::new(self.alloc, RawWire, settings)?);
-                Ok(())
-            }
-            Command::Calls(call) => match &mut self.conn {
-                Some(conn) => answer_call(conn, call, text),
-                None => Ok(()),
-            },
-        }
+        let reply = run_command(self.alloc, &mut self.conn, command)?;
+        self.next += 1;
+        Ok(reply)
     }
 }

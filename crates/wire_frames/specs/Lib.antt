@@ -1,3 +1,4 @@
+pub mod RawCarries
 pub mod RawFrames
 pub mod RawReplies
 pub mod WireMeaning

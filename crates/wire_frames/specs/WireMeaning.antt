@@ -8,6 +8,7 @@ use Rattle.wire_frames.specs.declared.ends.EndKind.{EndKind}
 use Rattle.wire_frames.specs.declared.ends.EndKind.TheVariants.{Done, Written, Remote, Mismatch, Cancelled, Expired, LeaseGone, Lost}
 use Rattle.wire_frames.specs.declared.ends.FrameWhy.{FrameWhy}
 use Rattle.wire_frames.specs.declared.ends.Outcome.{Outcome}
+use Rattle.wire_frames.specs.declared.kinds.PlcValue.{PlcValue}
 use Rattle.wire_frames.specs.declared.wires.FrameFault.{FrameFault}
 use Rattle.wire_frames.specs.declared.wires.FrameFault.TheVariants as frame_faults
 use Rattle.wire_frames.specs.declared.wires.LengthRule.{LengthRule}
@@ -56,18 +57,18 @@ rows_of (asks.Read items) = length items
 rows_of (asks.Write items values) = length items
 rows_of (asks.Raw payload) = 1
 
-abbrev pub IsDoneOrBare : EndKind → Type 0 → Type 0 → Type 0
-IsDoneOrBare Done filled bare = filled
-IsDoneOrBare Written filled bare = bare
-IsDoneOrBare (Remote code) filled bare = bare
-IsDoneOrBare (Mismatch place got) filled bare = bare
-IsDoneOrBare Cancelled filled bare = ⊥
-IsDoneOrBare Expired filled bare = ⊥
-IsDoneOrBare LeaseGone filled bare = ⊥
-IsDoneOrBare (Lost reason) filled bare = ⊥
+-- what a reply makes of an ask, by its kind and values: it is done, with all rows of values or none, or it is written,
+-- refused by the device or mismatched, without values
+abbrev pub IsReplyWith : Ask → EndKind → List (List PlcValue) → Type 0
+IsReplyWith ask Done values = (values ≡ []) ⊎ (length values ≡ rows_of ask)
+IsReplyWith ask Written values = values ≡ []
+IsReplyWith ask (Remote code) values = values ≡ []
+IsReplyWith ask (Mismatch place got) values = values ≡ []
+IsReplyWith ask Cancelled values = ⊥
+IsReplyWith ask Expired values = ⊥
+IsReplyWith ask LeaseGone values = ⊥
+IsReplyWith ask (Lost reason) values = ⊥
 
--- what a reply makes of an ask: it is done, with all rows of values or none, or it is written, refused by the device or
--- mismatched, without values
+-- an outcome of a reply, by its kind and values
 abbrev pub IsReplyKind : Ask → Outcome → Type 0
-IsReplyKind ask outcome =
-    IsDoneOrBare outcome.kind ((outcome.values ≡ []) ⊎ (length outcome.values ≡ rows_of ask)) (outcome.values ≡ [])
+IsReplyKind ask outcome = IsReplyWith ask outcome.kind outcome.values

@@ -5,6 +5,7 @@
 mod asks;
 mod ends;
 mod kinds;
+mod laws;
 mod raw;
 #[cfg(test)]
 mod tests;
@@ -13,5 +14,6 @@ mod wires;
 pub use asks::{Ask, ItemList, ValueList, ValueRows};
 pub use ends::{EndKind, FrameWhy, Outcome, Reason};
 pub use kinds::{Area, Item, PlcType, PlcValue};
+pub use laws::raw_frames_carry;
 pub use raw::RawWire;
 pub use wires::{FrameFault, LengthRule, Reply, ReplyFault, Wire};

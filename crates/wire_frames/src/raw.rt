@@ -13,6 +13,16 @@ use std::alloc::{AllocError, Global};
 #[derive(Debug, Drop)]
 pub struct RawWire;
 
+impl RawWire {
+    /// Whether bytes are one whole raw frame: they state their own length, from 4 to 4,096 bytes.
+    pub fn is_whole(frame: &[u8]) -> bool
+        ensures { result ≡ is_whole frame.now }
+    {
+        let size = frame.len();
+        read_length(frame) as usize == size && 4 <= size && size <= 4096
+    }
+}
+
 /// The number of the two bytes from `at` on.
 fn read_number(frame: &[u8], at: usize) -> u16
     requires { at + 1 < length frame.now }
@@ -29,13 +39,6 @@ fn read_length(frame: &[u8]) -> u16
     } else {
         read_number(frame, 0)
     }
-}
-
-fn check_whole(frame: &[u8]) -> bool
-    ensures { result ≡ is_whole frame.now }
-{
-    let size = frame.len();
-    read_length(frame) as usize == size && 4 <= size && size <= 4096
 }
 
 fn write_frame(alloc: Global, payload: &[u8], reference: u16) -> Result<ByteList, AllocError>
@@ -143,7 +146,7 @@ impl Wire for RawWire {
     }
 
     fn reply<'a>(&self, alloc: Global, frame: &'a [u8]) -> Result<Reply<'a>, ReplyFault> {
-        if !check_whole(frame) {
+        if !RawWire::is_whole(frame) {
             let got = u32::from(read_length(frame));
             return Err(ReplyFault::Undecodable(FrameWhy::Length { got }));
         }

@@ -184,3 +184,19 @@ fn copies_an_ask(rt: HostRuntime) -> Result<(), Fail> {
     }
     Ok(())
 }
+
+#[test]
+fn whole_raw_frames_state_their_length(rt: HostRuntime) -> Result<(), Fail> {
+    let alloc = rt.alloc();
+    assert_eq!(rt; RawWire::is_whole(&[0, 4, 0, 0]), true);
+    assert_eq!(rt; RawWire::is_whole(&[0, 3, 0]), false);
+    assert_eq!(rt; RawWire::is_whole(&[0, 5, 0, 0]), false);
+    assert_eq!(rt; RawWire::is_whole(&[0, 3, 0, 0]), false);
+    let mut longest = vec![in alloc; 0; 4096]?;
+    longest[0] = 16;
+    assert_eq!(rt; RawWire::is_whole(&longest), true);
+    longest.push(0)?;
+    longest[1] = 1;
+    assert_eq!(rt; RawWire::is_whole(&longest), false);
+    Ok(())
+}

@@ -109,7 +109,7 @@ pub trait Wire: Drop + Send {
         requires referred { 0 < reference }
         ensures { FramesAs ((meaning self.now).frame_of ask.now reference) result };
 
-    /// The reading of a whole frame, and its reference.
+    /// The reading of bytes, if they are one whole frame, and its reference.
     fn reply<'a>(&self, alloc: Global, frame: &'a [u8]) -> Result<Reply<'a>, ReplyFault>
         ensures { ReadsAs (meaning self.now) frame.now result };
 

@@ -4,7 +4,7 @@ use Rattle.link_io.proofs.tests.read_whole.Goals as goal
 
 pub returns-in-Ok-eq0-clause-all : goal.returns-in-Ok-eq0-clause-all
 returns-in-Ok-eq0-clause-all g c =
-    let at_end : IsAtEnd (g.S.Source.told c.loop-turn.input) = c.in-Ok-eq0.ensures.at_end (cc) in
+    let at_end : IsAtEnd (g.S.Source.seen c.loop-turn.input).tape = c.in-Ok-eq0.ensures.at_end (cc) in
     AreNext-all _ _ c.loop-turn.invariant.next (rw c.loop-turn.invariant.told at at_end)
 
 pub loop-turn-preserved : goal.loop-turn-preserved

@@ -1,46 +1,44 @@
-use Rattle.std.proofs.Common.{◌≡◌, [], ◌++◌, take, min, Some, None, vec_len, inl, refl, ap, ◌∙◌}
+use Rattle.std.proofs.Common.{◌≡◌, [], ◌++◌, take, min, Some, vec_len, inl, refl, ap, ◌∙◌}
 use Rattle.std.proofs.lemmas.Result.{err_from_is_err_and, IfErr-at_err}
 use Rattle.plchost.specs.declared.faults.Cut.TheVariants.{NoMemory}
 use Rattle.plchost.specs.Endings.{ending_of}
-use Rattle.plchost.specs.Preparing.{refusal_said}
+use Rattle.plchost.specs.Preparing.{refusal_said, untaken}
 use Rattle.plchost.specs.Tool.{listings, last_said, said, Values}
 use Rattle.plchost.proofs.FormReads.{form_reads}
 use Rattle.plchost.proofs.RunLemmas.{Adds-more, Adds-same, Adds-nothing, Adds-gathered}
-use Rattle.plchost.proofs.ToolLemmas.{untouched, both_ok, refusal_tool, decoded, comes_to_values, front_of_values, front_before_last, values_tool}
+use Rattle.plchost.proofs.ToolLemmas.{untouched, both_ok, refusal_tool, decoded, comes_to_values, front_of_values, front_before_last, taken_so, values_tool}
 use Rattle.plchost.proofs.StatusLemmas.{not_early}
 use Rattle.plchost.proofs.decoding.decode.Goals as goal
 
 pub returns-in-Err-clause-said : goal.returns-in-Err-clause-said
 returns-in-Err-clause-said g c =
     let refused = c.in-Err.ensures.refused in
-    let tape = g.S.Source.told c.args.input.now in
-    let alone = untouched tape (g.S.Source.ends c.args.input.now) (g.S.Source.faults c.args.input.now) in
-    let held = g.K.Sink.held c.args.out.now in
+    let alone = untouched (g.S.Source.seen c.args.input.now) in
+    let held = (g.K.Sink.seen c.args.out.now).held in
     let t0 = c.args.gathered.now.items in
     let t1 = c.say.new.gathered.items in
     both_ok c.say.result _ _ _ c.say.ensures.said c.say.ensures.memory
-    (λ status added memory. (refused.0, [], None, refusal_said c.in-Err.refusal, refused.1, alone, refusal_tool c.args.words.now refused.0 c.in-Err.refusal memory refused.2, Adds-gathered held held t0 t1 (refusal_said c.in-Err.refusal).text refl added.0, added.1))
+    (λ status added memory. (untaken refused.0, refusal_said c.in-Err.refusal, record { from_files = refused.1; from_input = alone }, refusal_tool c.args.words.now refused.0 c.in-Err.refusal memory refused.2, Adds-gathered held held t0 t1 (refusal_said c.in-Err.refusal).text refl added.0, added.1))
 
 pub returns-in-Err-clause-no_memory : goal.returns-in-Err-clause-no_memory
 returns-in-Err-clause-no_memory g c =
     λ (e : _).
     let refused = c.in-Err.ensures.refused in
-    let tape = g.S.Source.told c.args.input.now in
-    let alone = untouched tape (g.S.Source.ends c.args.input.now) (g.S.Source.faults c.args.input.now) in
-    let held = g.K.Sink.held c.args.out.now in
+    let alone = untouched (g.S.Source.seen c.args.input.now) in
+    let held = (g.K.Sink.seen c.args.out.now).held in
     let t0 = c.args.gathered.now.items in
     let t1 = c.say.new.gathered.items in
     let same = IfErr-at_err (λ cut. (cut ≡ NoMemory) × (t1 ≡ t0)) e c.say.ensures.unchanged in
-    (refused.0, [], None, [], refused.1, alone, inl refl, Adds-nothing held held t0 t1 refl same.1)
+    (untaken refused.0, [], record { from_files = refused.1; from_input = alone }, inl refl, Adds-nothing held held t0 t1 refl same.1)
 
 pub returns-in_err-capture-clause-no_memory : goal.returns-in_err-capture-clause-no_memory
 returns-in_err-capture-clause-no_memory g c =
     λ (e : _).
     let ready = c.in-Ok.ensures.ready in
     let taken = c.in_err-capture.ensures.no_memory in
-    let held = g.K.Sink.held c.args.out.now in
+    let held = (g.K.Sink.seen c.args.out.now).held in
     let t0 = c.args.gathered.now.items in
-    (Some ready.2, taken.0, taken.1, [], ready.4, taken.2, inl refl, Adds-nothing held held t0 t0 refl refl)
+    (record { file = Some ready.2; bytes = taken.0; how = taken.1 }, [], record { from_files = ready.4; from_input = taken.2 }, inl refl, Adds-nothing held held t0 t0 refl refl)
 
 pub put_values-requires-clause-can : goal.put_values-requires-clause-can
 put_values-requires-clause-can g c =
@@ -60,8 +58,8 @@ returns-in_err-rest-clause-no_memory g c =
     let cap = c.in_ok-capture.ensures.taken in
     λ (e : _).
     let cut = c.in_err-rest.ensures.no_memory (cc) in
-    let comes = comes_to_values c.args.words.now ready.0 ready.1 ready.2 taken (take n now) (Some c.in_ok-capture.capture.how) d def (cut.0 ++ cut.1) cut.2 ready.3 ready.5 ready.6 same cut.3 in
-    (Some ready.2, taken, Some c.in_ok-capture.capture.how, listings d def cut.0, ready.4, cap, front_of_values c.args.words.now (Some ready.2) taken c.in_ok-capture.capture.how d def cut.0 cut.1 cut.2 comes, cut.4)
+    let comes = comes_to_values c.args.words.now ready.0 ready.1 ready.2 taken (take n now) c.in_ok-capture.capture.how d def (cut.0 ++ cut.1) cut.2 ready.3 ready.5 ready.6 same cut.3 in
+    (taken_so ready.2 taken c.in_ok-capture.capture.how, listings d def cut.0, record { from_files = ready.4; from_input = cap }, front_of_values c.args.words.now ready.2 taken c.in_ok-capture.capture.how d def cut.0 cut.1 cut.2 comes, cut.4)
 
 pub returns-in_err-rest-clause-cut : goal.returns-in_err-rest-clause-cut
 returns-in_err-rest-clause-cut g c =
@@ -76,8 +74,8 @@ returns-in_err-rest-clause-cut g c =
     let cap = c.in_ok-capture.ensures.taken in
     λ (e : _).
     let cut = c.in_err-rest.ensures.cut (cc) in
-    let comes = comes_to_values c.args.words.now ready.0 ready.1 ready.2 taken (take n now) (Some c.in_ok-capture.capture.how) d def (cut.0 ++ cut.1) cut.2 ready.3 ready.5 ready.6 same cut.3 in
-    (Some ready.2, taken, Some c.in_ok-capture.capture.how, listings d def cut.0, ready.4, cap, front_of_values c.args.words.now (Some ready.2) taken c.in_ok-capture.capture.how d def cut.0 cut.1 cut.2 comes, cut.4)
+    let comes = comes_to_values c.args.words.now ready.0 ready.1 ready.2 taken (take n now) c.in_ok-capture.capture.how d def (cut.0 ++ cut.1) cut.2 ready.3 ready.5 ready.6 same cut.3 in
+    (taken_so ready.2 taken c.in_ok-capture.capture.how, listings d def cut.0, record { from_files = ready.4; from_input = cap }, front_of_values c.args.words.now ready.2 taken c.in_ok-capture.capture.how d def cut.0 cut.1 cut.2 comes, cut.4)
 
 pub returns-in_err-status-clause-no_memory : goal.returns-in_err-status-clause-no_memory
 returns-in_err-status-clause-no_memory g c =
@@ -90,14 +88,14 @@ returns-in_err-status-clause-no_memory g c =
     let same = decoded n taken now (vec_len c.in_ok-capture.capture.bytes) c.deref.ensures.value c.deref.ensures.len (c.min-counted.ensures ∙ ap (λ k. min k 16777216) c.len.ensures) in
     let cap = c.in_ok-capture.ensures.taken in
     let values = c.in_ok-rest.ensures.values in
-    let how = Some c.in_ok-capture.capture.how in
+    let how = c.in_ok-capture.capture.how in
     let ending = ending_of c.in_ok-rest.rest in
     let comes = comes_to_values c.args.words.now ready.0 ready.1 ready.2 taken (take n now) how d def values.0 ending ready.3 ready.5 ready.6 same values.1 in
-    let h0 = g.K.Sink.held c.args.out.now in
-    let h1 = g.K.Sink.held c.put_values.new.out in
+    let h0 = (g.K.Sink.seen c.args.out.now).held in
+    let h1 = (g.K.Sink.seen c.put_values.new.out).held in
     let added = Adds-same h0 h1 h1 c.args.gathered.now.items c.put_values.new.gathered.items c.close.new.gathered.items (listings d def values.0) values.2 refl c.in_err-status.ensures.unchanged in
     λ (e : _).
-    (Some ready.2, taken, how, listings d def values.0, ready.4, cap, front_before_last c.args.words.now (Some ready.2) taken c.in_ok-capture.capture.how d def values.0 ending comes, added)
+    (taken_so ready.2 taken how, listings d def values.0, record { from_files = ready.4; from_input = cap }, front_before_last c.args.words.now ready.2 taken how d def values.0 ending comes, added)
 
 pub returns-clause-said : goal.returns-clause-said
 returns-clause-said g c =
@@ -112,15 +110,15 @@ returns-clause-said g c =
     let values = c.in_ok-rest.ensures.values in
     let how = c.in_ok-capture.capture.how in
     let ending = ending_of c.in_ok-rest.rest in
-    let comes = comes_to_values c.args.words.now ready.0 ready.1 ready.2 taken (take n now) (Some how) d def values.0 ending ready.3 ready.5 ready.6 same values.1 in
-    let h0 = g.K.Sink.held c.args.out.now in
-    let h1 = g.K.Sink.held c.put_values.new.out in
+    let comes = comes_to_values c.args.words.now ready.0 ready.1 ready.2 taken (take n now) how d def values.0 ending ready.3 ready.5 ready.6 same values.1 in
+    let h0 = (g.K.Sink.seen c.args.out.now).held in
+    let h1 = (g.K.Sink.seen c.put_values.new.out).held in
     let t1 = c.put_values.new.gathered.items in
     let t2 = c.close.new.gathered.items in
     let closed = c.in_ok-status.ensures.closed in
     let last = (last_said (Some how) ending).text in
     let added = Adds-more h0 h1 h1 c.args.gathered.now.items t1 t2 (listings d def values.0) last values.2 (Adds-gathered h1 h1 t1 t2 last refl closed.0) in
-    (Some ready.2, taken, Some how, said (Some how) (Values d def values.0 ending), ready.4, cap, values_tool c.args.words.now (Some ready.2) taken how d def values.0 ending comes, added, closed.1)
+    (taken_so ready.2 taken how, said (Some how) (Values d def values.0 ending), record { from_files = ready.4; from_input = cap }, values_tool c.args.words.now ready.2 taken how d def values.0 ending comes, added, closed.1)
 
 pub returns-clause-untouched : goal.returns-clause-untouched
 returns-clause-untouched g c =

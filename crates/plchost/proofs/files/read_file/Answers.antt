@@ -16,7 +16,7 @@ loop-buffer-preserved g c =
     let longer : vec_len c.extend_from_slice.new.self ≡ len + count = omega (arith, c.in_ok-extend_from_slice.ensures.len, length-take-le count c.read_at.new.to enough) in
     let long = c.read_at.auto.to ∙ length-take c.min-room.result c.loop-buffer.buffer in
     let shelf = c.loop-buffer.files in
-    let given = subst (λ (n : ℕ). IfSome (g.F.Shelf.file shelf name) (λ bytes. piece ≡ take count (drop n bytes))) c.len-in-loop-buffer-2.ensures c.in_ok-count.ensures.content in
+    let given = subst (λ (n : ℕ). IfSome ((g.F.Shelf.seen shelf).file name) (λ bytes. piece ≡ take count (drop n bytes))) c.len-in-loop-buffer-2.ensures c.in_ok-count.ensures.content in
     let next = subst (λ (told : Option (List ℕ)). IfSome told (λ bytes. piece ≡ take count (drop len bytes))) (inv.files name) given in
     record {
       within = omega (arith, longer, enough, long, c.min-room.ensures, c.len-in-loop-buffer.ensures);
@@ -28,7 +28,7 @@ loop-buffer-preserved g c =
 pub returns-clause-text : goal.returns-clause-text
 returns-clause-text g c =
     let all : vec_len c.loop-buffer.text ≡ 1048577 = omega arith in
-    subst (λ (n : ℕ). IfSome (g.F.Shelf.file c.args.files.now c.args.name.now) (λ bytes. c.loop-buffer.text.items ≡ take n bytes)) all c.loop-buffer.invariant.front
+    subst (λ (n : ℕ). IfSome ((g.F.Shelf.seen c.args.files.now).file c.args.name.now) (λ bytes. c.loop-buffer.text.items ≡ take n bytes)) all c.loop-buffer.invariant.front
 
 pub returns-then-count-eq0-clause-text : goal.returns-then-count-eq0-clause-text
 returns-then-count-eq0-clause-text g c =
@@ -36,6 +36,6 @@ returns-then-count-eq0-clause-text g c =
     let name = c.args.name.now in
     let len = vec_len c.loop-buffer.text in
     let given = c.in_ok-count.ensures.at_end (ap (λ n. Ok n) c.if-count-eq0.true) in
-    let over = subst (λ (n : ℕ). IfSome (g.F.Shelf.file c.loop-buffer.files name) (λ bytes. length bytes ≤ n)) c.len-in-loop-buffer-2.ensures given in
+    let over = subst (λ (n : ℕ). IfSome ((g.F.Shelf.seen c.loop-buffer.files).file name) (λ bytes. length bytes ≤ n)) c.len-in-loop-buffer-2.ensures given in
     let end = subst (λ (told : Option (List ℕ)). IfSome told (λ bytes. length bytes ≤ len)) (inv.files name) over in
-    front_all (g.F.Shelf.file c.args.files.now name) c.loop-buffer.text.items len 1048577 inv.within inv.front end
+    front_all ((g.F.Shelf.seen c.args.files.now).file name) c.loop-buffer.text.items len 1048577 inv.within inv.front end

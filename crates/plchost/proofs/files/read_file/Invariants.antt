@@ -6,9 +6,9 @@ use Rattle.plchost.proofs.files.read_file.Given as goal
 abbrev pub invariant-loop-buffer : goal.invariant-loop-buffer
 invariant-loop-buffer g l = record {
   within : vec_len l.text ≤ 1048577;
-  front : IfSome (g.F.Shelf.file l.fn.files l.name) (λ bytes. l.text.items ≡ take (vec_len l.text) bytes);
-  counts : (other : List ℕ) → g.F.Shelf.faults l.files other ≡ g.F.Shelf.faults l.fn.files other;
-  files : (other : List ℕ) → g.F.Shelf.file l.files other ≡ g.F.Shelf.file l.fn.files other;
+  front : IfSome ((g.F.Shelf.seen l.fn.files).file l.name) (λ bytes. l.text.items ≡ take (vec_len l.text) bytes);
+  counts : (other : List ℕ) → (g.F.Shelf.seen l.files).faults other ≡ (g.F.Shelf.seen l.fn.files).faults other;
+  files : (other : List ℕ) → (g.F.Shelf.seen l.files).file other ≡ (g.F.Shelf.seen l.fn.files).file other;
 }
 
 abbrev pub decreases-loop-buffer : goal.decreases-loop-buffer

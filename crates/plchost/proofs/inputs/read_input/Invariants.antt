@@ -6,10 +6,10 @@ use Rattle.plchost.proofs.inputs.read_input.Given as goal
 abbrev pub invariant-loop-buffer : goal.invariant-loop-buffer
 invariant-loop-buffer g l = record {
   within : vec_len l.bytes ≤ 16777217;
-  given : g.S.Source.told l.input ≡ after_giving l.bytes.items (g.S.Source.told l.fn.input);
-  next : AreNext l.bytes.items (g.S.Source.told l.fn.input);
-  ends : g.S.Source.ends l.input ≡ g.S.Source.ends l.fn.input;
-  faults : g.S.Source.faults l.input ≡ g.S.Source.faults l.fn.input;
+  given : (g.S.Source.seen l.input).tape ≡ after_giving l.bytes.items ((g.S.Source.seen l.fn.input).tape);
+  next : AreNext l.bytes.items ((g.S.Source.seen l.fn.input).tape);
+  ends : (g.S.Source.seen l.input).ends ≡ (g.S.Source.seen l.fn.input).ends;
+  faults : (g.S.Source.seen l.input).faults ≡ (g.S.Source.seen l.fn.input).faults;
 }
 
 abbrev pub decreases-loop-buffer : goal.decreases-loop-buffer

@@ -1,6 +1,6 @@
 use Rattle.std.proofs.Common.{◌≡◌, map, take}
 use Rattle.plchost.specs.FirstForm.{field_tree}
-use Rattle.plchost.specs.Reading.{seen}
+use Rattle.plchost.specs.FormReaders.{seen}
 use Rattle.plchost.proofs.plain_types.field_trees.Given as goal
 
 abbrev pub invariant-loop-field : goal.invariant-loop-field

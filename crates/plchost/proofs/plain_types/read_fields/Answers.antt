@@ -1,6 +1,6 @@
 use Rattle.std.proofs.Common.{◌∙◌, ap, map, arith}
 use Rattle.std.proofs.lemmas.List.{length-map}
-use Rattle.plchost.specs.Reading.{seen}
+use Rattle.plchost.specs.FormReaders.{seen}
 use Rattle.plchost.proofs.FieldLaws.{read_none, taken_here, seen_push, read_push, too_many, doubled}
 use Rattle.plchost.proofs.plain_types.read_fields.Goals as goal
 use Rattle.plchost.proofs.plain_types.read_fields.Goals.{then-len-eq-MAX_FIELDS-via-then-len-eq-MAX_FIELDS, then-len-eq-MAX_FIELDS-via-else-len-eq-MAX_FIELDS+then-is_taken}

@@ -1,5 +1,5 @@
 use Rattle.std.proofs.Common.{◌-◌, vec_len, map}
-use Rattle.plchost.specs.Reading.{seen}
+use Rattle.plchost.specs.FormReaders.{seen}
 use Rattle.plchost.proofs.FieldLaws.{HaveRead}
 use Rattle.plchost.proofs.plain_types.read_fields.Given as goal
 

@@ -2,7 +2,7 @@ use Rattle.std.proofs.Common.{sym, ◌∙◌, arith}
 use Rattle.std.proofs.lemmas.List.{length-map}
 use Rattle.std.proofs.lemmas.Bool.{eqb-true, eqb-false}
 use Rattle.std.proofs.lemmas.Result.{err_from_is_err_and}
-use Rattle.plchost.specs.Reading.{seen}
+use Rattle.plchost.specs.FormReaders.{seen}
 use Rattle.plchost.proofs.FormLaws.{no_head, bad_fields, no_fields, no_end, read_whole, handed_on}
 use Rattle.plchost.proofs.plain_types.read_type.Goals as goal
 use Rattle.plchost.proofs.plain_types.read_type.Goals.{then-is_empty-via-then-is_empty, then-is_empty-via-else-is_empty+then-not-is_end}

@@ -9,7 +9,7 @@ returns-in_err-text-clause-refused g c =
     let p = err_from_is_err_and c.from_residual.result c.from_residual.ensures.1 in
     let kept = c.in_err-text.ensures.no_fault in
     rw (p.1, p.2)
-    (failed_seen c.args.words.now c.in-Some.found.file.now c.in-Some.found.kind.now (g.F.Shelf.faults c.args.files.now) (g.F.Shelf.faults c.read_file.new.files) g.F.Shelf.counts_with (g.F.Shelf.file c.args.files.now) c.in_err-text.field-0.0 c.in-Some.ensures
+    (failed_seen c.args.words.now c.in-Some.found.file.now c.in-Some.found.kind.now g.F.Shelf.counts_with (g.F.Shelf.seen c.args.files.now) (g.F.Shelf.seen c.read_file.new.files) c.in_err-text.field-0.0 c.in-Some.ensures
     (λ e. c.in_err-text.ensures.fault (ap (λ x. Err x) e))
     (elim kept [ inl failed ↦ inl (cc) | inr same ↦ inr same ])
     c.in_err-text.ensures.others)
@@ -17,12 +17,12 @@ returns-in_err-text-clause-refused g c =
 pub returns-in_err-description-clause-refused : goal.returns-in_err-description-clause-refused
 returns-in_err-description-clause-refused g c =
     let p = err_from_is_err_and c.from_residual-in_err-description.result c.from_residual-in_err-description.ensures.1 in
-    let faults = g.F.Shelf.faults c.args.files.now in
-    let after = g.F.Shelf.faults c.read_file.new.files in
-    let same : (other : List ℕ) → after other ≡ faults other = elim c.in_ok-text.ensures.no_fault [ inl failed ↦ absurd cc | inr same ↦ same ] in
-    let front = subst (λ (text : List ℕ). IfSome (g.F.Shelf.file c.args.files.now c.in-Some.found.file.now) (λ bytes. text ≡ take 1048577 bytes)) (sym c.deref.ensures.value) c.in_ok-text.ensures.text in
+    let before = g.F.Shelf.seen c.args.files.now in
+    let after = g.F.Shelf.seen c.read_file.new.files in
+    let same : (other : List ℕ) → after.faults other ≡ before.faults other = elim c.in_ok-text.ensures.no_fault [ inl failed ↦ absurd cc | inr same ↦ same ] in
+    let front = subst (λ (text : List ℕ). IfSome (before.file c.in-Some.found.file.now) (λ bytes. text ≡ take 1048577 bytes)) (sym c.deref.ensures.value) c.in_ok-text.ensures.text in
     rw (p.1, p.2)
-    (unformed_seen c.args.words.now c.in-Some.found.file.now c.in-Some.found.kind.now c.deref.result.now faults after g.F.Shelf.counts_with (g.F.Shelf.file c.args.files.now) c.in_err-description.field-0.0 c.in-Some.ensures same front
+    (unformed_seen c.args.words.now c.in-Some.found.file.now c.in-Some.found.kind.now c.deref.result.now g.F.Shelf.counts_with before after c.in_err-description.field-0.0 c.in-Some.ensures same front
     (λ e. c.in_err-description.ensures.refused (ap (λ x. Err x) e)))
 
 pub returns-in-Some-def_named-clause-ready : goal.returns-in-Some-def_named-clause-ready
@@ -30,13 +30,12 @@ returns-in-Some-def_named-clause-ready g c =
     let name = c.in-Some.found.file.now in
     let kind = c.in-Some.found.kind.now in
     let text = c.deref.result.now in
-    let faults = g.F.Shelf.faults c.args.files.now in
-    let after = g.F.Shelf.faults c.read_file.new.files in
-    let told = g.F.Shelf.file c.args.files.now in
-    let same : (other : List ℕ) → after other ≡ faults other = elim c.in_ok-text.ensures.no_fault [ inl failed ↦ absurd cc | inr same ↦ same ] in
-    let front = subst (λ (t : List ℕ). IfSome (told name) (λ bytes. t ≡ take 1048577 bytes)) (sym c.deref.ensures.value) c.in_ok-text.ensures.text in
+    let before = g.F.Shelf.seen c.args.files.now in
+    let after = g.F.Shelf.seen c.read_file.new.files in
+    let same : (other : List ℕ) → after.faults other ≡ before.faults other = elim c.in_ok-text.ensures.no_fault [ inl failed ↦ absurd cc | inr same ↦ same ] in
+    let front = subst (λ (t : List ℕ). IfSome (before.file name) (λ bytes. t ≡ take 1048577 bytes)) (sym c.deref.ensures.value) c.in_ok-text.ensures.text in
     let form = c.in_ok-description.ensures.accepted in
-    let seen = seen_by c.args.words.now name kind faults after g.F.Shelf.counts_with told (Some text) c.in-Some.ensures (same, text_seen (told name) text c.in_ok-description.description front form) (λ other _. same other) in
+    let seen = seen_by c.args.words.now name kind g.F.Shelf.counts_with before after (Some text) c.in-Some.ensures (same, text_seen (before.file name) text c.in_ok-description.description front form) (λ other _. same other) in
     (name, kind, text, c.in-Some.ensures, seen, form, c.in-Some-def_named.ensures)
 
 pub returns-clause-refused : goal.returns-clause-refused
@@ -44,11 +43,10 @@ returns-clause-refused g c =
     let name = c.in-Some.found.file.now in
     let kind = c.in-Some.found.kind.now in
     let text = c.deref.result.now in
-    let faults = g.F.Shelf.faults c.args.files.now in
-    let after = g.F.Shelf.faults c.read_file.new.files in
-    let told = g.F.Shelf.file c.args.files.now in
-    let same : (other : List ℕ) → after other ≡ faults other = elim c.in_ok-text.ensures.no_fault [ inl failed ↦ absurd cc | inr same ↦ same ] in
-    let front = subst (λ (t : List ℕ). IfSome (told name) (λ bytes. t ≡ take 1048577 bytes)) (sym c.deref.ensures.value) c.in_ok-text.ensures.text in
+    let before = g.F.Shelf.seen c.args.files.now in
+    let after = g.F.Shelf.seen c.read_file.new.files in
+    let same : (other : List ℕ) → after.faults other ≡ before.faults other = elim c.in_ok-text.ensures.no_fault [ inl failed ↦ absurd cc | inr same ↦ same ] in
+    let front = subst (λ (t : List ℕ). IfSome (before.file name) (λ bytes. t ≡ take 1048577 bytes)) (sym c.deref.ensures.value) c.in_ok-text.ensures.text in
     let form = c.in_ok-description.ensures.accepted in
-    let seen = seen_by c.args.words.now name kind faults after g.F.Shelf.counts_with told (Some text) c.in-Some.ensures (same, text_seen (told name) text c.in_ok-description.description front form) (λ other _. same other) in
-    (Some text, seen, λ taken. (name, kind, text, c.in_ok-description.description, c.in-Some.ensures, refl, form, c.in-None.ensures))
+    let seen = seen_by c.args.words.now name kind g.F.Shelf.counts_with before after (Some text) c.in-Some.ensures (same, text_seen (before.file name) text c.in_ok-description.description front form) (λ other _. same other) in
+    (Some text, seen, (name, kind, text, c.in_ok-description.description, c.in-Some.ensures, refl, form, c.in-None.ensures))

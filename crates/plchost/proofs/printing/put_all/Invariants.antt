@@ -7,8 +7,8 @@ abbrev pub invariant-loop-rest : goal.invariant-loop-rest
 invariant-loop-rest g l =
     (front : List ℕ)
     × (front ++ l.rest ≡ l.bytes)
-    × (g.K.Sink.held l.out ≡ after_taking front (g.K.Sink.held l.fn.out))
-    × (g.K.Sink.faults l.out ≡ g.K.Sink.faults l.fn.out)
+    × ((g.K.Sink.seen l.out).held ≡ after_taking front (g.K.Sink.seen l.fn.out).held)
+    × ((g.K.Sink.seen l.out).faults ≡ (g.K.Sink.seen l.fn.out).faults)
 
 abbrev pub decreases-loop-rest : goal.decreases-loop-rest
 decreases-loop-rest g l = length l.rest

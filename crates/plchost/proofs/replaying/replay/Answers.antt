@@ -43,8 +43,8 @@ returns-in_err-status-clause-no_memory g c =
     let answers = c.in_ok-end.ensures.answers in
     let end = c.in_ok-end.end in
     let script = script_of how c.has_ended-ended.result (take n now) (take 16777216 taken) answers.0 end c.has_ended-ended.ensures same answers.1 in
-    let h0 = g.K.Sink.held c.args.out.now in
-    let h1 = g.K.Sink.held c.put_answers.new.out in
+    let h0 = (g.K.Sink.seen c.args.out.now).held in
+    let h1 = (g.K.Sink.seen c.put_answers.new.out).held in
     let added = Adds-same h0 h1 h1 c.args.gathered.now.items c.put_answers.new.gathered.items c.close_script.new.gathered.items answers.0 answers.2 refl c.in_err-status.ensures.unchanged in
     λ (e : _). (taken, Some how, answers.0, c.in_ok-script.ensures.taken, inr (how, answers.0, [], end, refl, script, append-nil answers.0), added)
 
@@ -58,8 +58,8 @@ returns-clause-said g c =
     let answers = c.in_ok-end.ensures.answers in
     let end = c.in_ok-end.end in
     let script = script_of how c.has_ended-ended.result (take n now) (take 16777216 taken) answers.0 end c.has_ended-ended.ensures same answers.1 in
-    let h0 = g.K.Sink.held c.args.out.now in
-    let h1 = g.K.Sink.held c.put_answers.new.out in
+    let h0 = (g.K.Sink.seen c.args.out.now).held in
+    let h1 = (g.K.Sink.seen c.put_answers.new.out).held in
     let t1 = c.put_answers.new.gathered.items in
     let t2 = c.close_script.new.gathered.items in
     let closed = c.in_ok-status.ensures.closed in

@@ -10,13 +10,13 @@ use Rattle.plchost.proofs.replies.put_answers.Goals as goal
 
 pub loop-line-init : goal.loop-line-init
 loop-line-init g c =
-    let held = g.K.Sink.held c.args.out.now in
+    let held = (g.K.Sink.seen c.args.out.now).held in
     let t0 = c.args.gathered.now.items in
     let all = lines_in c.args.ended c.args.bytes.now in (
       [],
       Adds-nothing held held t0 t0 refl refl,
       refl,
-      subst (λ (p : Position). GoesOn all p.next p.at all []) (sym c.new-replay.ensures) (goes_first all),
+      subst (λ (p : Position). GoesOn all p.next p.conn all []) (sym c.new-replay.ensures) (goes_first all),
     )
 
 pub returns-in_err-put_answer-clause-no_memory : goal.returns-in_err-put_answer-clause-no_memory
@@ -24,14 +24,14 @@ returns-in_err-put_answer-clause-no_memory g c =
     let p = err_from_is_err_and c.from_residual.result c.from_residual.ensures.1 in
     let inv = c.loop-line.invariant in
     let all = lines_in c.args.ended c.args.bytes.now in
-    let some = some_answers all c.loop-line.replay.next c.loop-line.replay.at (lines_in c.args.ended c.loop-line.rest.now) inv.0 inv.3 in
+    let some = some_answers all c.loop-line.replay.next c.loop-line.replay.conn (lines_in c.args.ended c.loop-line.rest.now) inv.0 inv.3 in
     λ (e : _).
     let same = c.in_err-put_answer.ensures.no_memory (cc) in (
       inv.0,
       some.0,
       some.1,
       some.2,
-      Adds-same (g.K.Sink.held c.args.out.now) (g.K.Sink.held c.loop-line.out) (g.K.Sink.held c.put_answer.new.out) c.args.gathered.now.items c.loop-line.gathered.items c.put_answer.new.gathered.items inv.0 inv.1 same.0 same.1,
+      Adds-same (g.K.Sink.seen c.args.out.now).held (g.K.Sink.seen c.loop-line.out).held (g.K.Sink.seen c.put_answer.new.out).held c.args.gathered.now.items c.loop-line.gathered.items c.put_answer.new.gathered.items inv.0 inv.1 same.0 same.1,
     )
 
 pub returns-in_err-put_answer-clause-cut : goal.returns-in_err-put_answer-clause-cut
@@ -40,7 +40,7 @@ returns-in_err-put_answer-clause-cut g c =
     let inv = c.loop-line.invariant in
     let all = lines_in c.args.ended c.args.bytes.now in
     let n = c.loop-line.replay.next in
-    let at = c.loop-line.replay.at in
+    let at = c.loop-line.replay.conn in
     let left = lines_in c.args.ended c.in-Some.more.now in
     λ (e : _).
     let cut = c.in_err-put_answer.ensures.cut (cc) in
@@ -50,7 +50,7 @@ returns-in_err-put_answer-clause-cut g c =
       some.0,
       some.1,
       some.2,
-      PutsFront-after (g.K.Sink.held c.args.out.now) (g.K.Sink.held c.loop-line.out) (g.K.Sink.held c.put_answer.new.out) c.args.gathered.now.items c.loop-line.gathered.items inv.0 (reply_text at cut.0) inv.1 cut.2,
+      PutsFront-after (g.K.Sink.seen c.args.out.now).held (g.K.Sink.seen c.loop-line.out).held (g.K.Sink.seen c.put_answer.new.out).held c.args.gathered.now.items c.loop-line.gathered.items inv.0 (reply_text at cut.0) inv.1 cut.2,
     )
 
 pub returns-then-not-branch-clause-answers : goal.returns-then-not-branch-clause-answers
@@ -58,13 +58,13 @@ returns-then-not-branch-clause-answers g c =
     let inv = c.loop-line.invariant in
     let all = lines_in c.args.ended c.args.bytes.now in
     let n = c.loop-line.replay.next in
-    let at = c.loop-line.replay.at in
+    let at = c.loop-line.replay.conn in
     let refused = c.put_answer.ensures.refused (c.in_ok-put_answer.was ∙ ap (λ taken. Ok taken) c.if-not-branch.true) in
     let script = ends_refused all n at c.in-Some.line.now (lines_in c.args.ended c.loop-line.rest.now) (lines_in c.args.ended c.in-Some.more.now) inv.0 c.in-Some.ensures.line refused.0 inv.3 in
     let here : c.next-line.result ≡ n = c.next-line.ensures ∙ ap (λ (p : Position). p.next) refused.3 in (
       inv.0,
       subst (λ (line : ℕ). Script all inv.0 (Refused line)) (sym here) script,
-      Adds-same (g.K.Sink.held c.args.out.now) (g.K.Sink.held c.loop-line.out) (g.K.Sink.held c.put_answer.new.out) c.args.gathered.now.items c.loop-line.gathered.items c.put_answer.new.gathered.items inv.0 inv.1 refused.1 refused.2,
+      Adds-same (g.K.Sink.seen c.args.out.now).held (g.K.Sink.seen c.loop-line.out).held (g.K.Sink.seen c.put_answer.new.out).held c.args.gathered.now.items c.loop-line.gathered.items c.put_answer.new.gathered.items inv.0 inv.1 refused.1 refused.2,
     )
 
 pub loop-line-preserved : goal.loop-line-preserved
@@ -72,15 +72,15 @@ loop-line-preserved g c =
     let inv = c.loop-line.invariant in
     let all = lines_in c.args.ended c.args.bytes.now in
     let n = c.loop-line.replay.next in
-    let at = c.loop-line.replay.at in
+    let at = c.loop-line.replay.conn in
     let left = lines_in c.args.ended c.in-Some.more.now in
     let answered = c.put_answer.ensures.answered (c.in_ok-put_answer.was ∙ ap (λ taken. Ok taken) c.if-not-branch.false) in
     let goes = one_more_answer all n at c.in-Some.line.now (lines_in c.args.ended c.loop-line.rest.now) left inv.0 answered.0 c.in-Some.ensures.line answered.1 inv.3 in
     let text = inv.0 ++ reply_text at answered.0 in (
       text,
-      Adds-more (g.K.Sink.held c.args.out.now) (g.K.Sink.held c.loop-line.out) (g.K.Sink.held c.put_answer.new.out) c.args.gathered.now.items c.loop-line.gathered.items c.put_answer.new.gathered.items inv.0 (reply_text at answered.0) inv.1 answered.2,
+      Adds-more (g.K.Sink.seen c.args.out.now).held (g.K.Sink.seen c.loop-line.out).held (g.K.Sink.seen c.put_answer.new.out).held c.args.gathered.now.items c.loop-line.gathered.items c.put_answer.new.gathered.items inv.0 (reply_text at answered.0) inv.1 answered.2,
       elim c.in_ok-put_answer.ensures.no_fault [ inl bad ↦ absurd cc | inr same ↦ same ∙ inv.2 ],
-      subst (λ (p : Position). GoesOn all p.next p.at left text) (sym answered.3) goes,
+      subst (λ (p : Position). GoesOn all p.next p.conn left text) (sym answered.3) goes,
     )
 
 pub returns-clause-answers : goal.returns-clause-answers
@@ -88,7 +88,7 @@ returns-clause-answers g c =
     let inv = c.loop-line.invariant in
     let all = lines_in c.args.ended c.args.bytes.now in
     let n = c.loop-line.replay.next in
-    let at = c.loop-line.replay.at in
+    let at = c.loop-line.replay.conn in
     let script = ends_answered all n at (lines_in c.args.ended c.loop-line.rest.now) inv.0 c.in_default.ensures.line inv.3 in (
       inv.0,
       subst (λ (end : ScriptEnd). Script all inv.0 end) (ap (λ next. Answered next (entries at)) (sym c.next.ensures) ∙ ap (λ (k : ℕ). Answered c.next.result k) (sym c.entries.ensures.entries)) script,

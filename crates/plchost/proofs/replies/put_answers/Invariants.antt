@@ -8,9 +8,9 @@ use Rattle.plchost.proofs.replies.put_answers.Given as goal
 abbrev pub invariant-loop-line : goal.invariant-loop-line
 invariant-loop-line g l =
     (text : List ℕ)
-    × Adds (g.K.Sink.held l.fn.out) (g.K.Sink.held l.out) l.fn.gathered.items l.gathered.items text
-    × (g.K.Sink.faults l.out ≡ g.K.Sink.faults l.fn.out)
-    × GoesOn (lines_in l.ended l.bytes) l.replay.next l.replay.at (lines_in l.ended l.rest) text
+    × Adds (g.K.Sink.seen l.fn.out).held (g.K.Sink.seen l.out).held l.fn.gathered.items l.gathered.items text
+    × ((g.K.Sink.seen l.out).faults ≡ (g.K.Sink.seen l.fn.out).faults)
+    × GoesOn (lines_in l.ended l.bytes) l.replay.next l.replay.conn (lines_in l.ended l.rest) text
 
 abbrev pub decreases-loop-line : goal.decreases-loop-line
 decreases-loop-line g l = length l.rest

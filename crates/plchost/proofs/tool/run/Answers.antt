@@ -2,17 +2,16 @@ use Rattle.std.proofs.Common.{None, Some}
 use Rattle.std.proofs.lemmas.Result.{IfOk-weaker}
 use Rattle.plchost.specs.Tool.{Answers, said}
 use Rattle.plchost.proofs.StatusLemmas.{script_not_early}
-use Rattle.plchost.proofs.ToolLemmas.{shelf_alone, script_tool, front_of_script}
+use Rattle.plchost.proofs.ToolLemmas.{shelf_alone, script_taken, script_tool, front_of_script}
 use Rattle.plchost.proofs.tool.run.Goals as goal
 
 pub returns-then-is_replay-clause-said : goal.returns-then-is_replay-clause-said
 returns-then-is_replay-clause-said g c =
     let words = c.args.words.now in
     let are = c.is_replay.ensures.0 c.if-is_replay.true in
-    let faults = g.F.Shelf.faults c.args.files.now in
-    let shelf = shelf_alone words faults g.F.Shelf.counts_with (g.F.Shelf.file c.args.files.now) None are in
+    let shelf = shelf_alone words g.F.Shelf.counts_with (g.F.Shelf.seen c.args.files.now) None are in
     IfOk-weaker c.replay.result _ _
-    (λ status s. (None, s.0, Some s.1, said (Some s.1) (Answers s.2 s.3), shelf, s.4, script_tool words None s.0 s.1 s.2 s.3 are s.5, s.6, s.7))
+    (λ status s. (script_taken s.0 (Some s.1), said (Some s.1) (Answers s.2 s.3), record { from_files = shelf; from_input = s.4 }, script_tool words s.0 s.1 s.2 s.3 are s.5, s.6, s.7))
     c.replay.ensures.said
 
 pub returns-then-is_replay-clause-untouched : goal.returns-then-is_replay-clause-untouched
@@ -24,17 +23,15 @@ returns-then-is_replay-clause-no_memory g c =
     λ (e : _).
     let words = c.args.words.now in
     let are = c.is_replay.ensures.0 c.if-is_replay.true in
-    let faults = g.F.Shelf.faults c.args.files.now in
-    let shelf = shelf_alone words faults g.F.Shelf.counts_with (g.F.Shelf.file c.args.files.now) None are in
+    let shelf = shelf_alone words g.F.Shelf.counts_with (g.F.Shelf.seen c.args.files.now) None are in
     let s = c.replay.ensures.no_memory e in
-    (None, s.0, s.1, s.2, shelf, s.3, front_of_script words None s.0 s.1 s.2 are s.4, s.5)
+    (script_taken s.0 s.1, s.2, record { from_files = shelf; from_input = s.3 }, front_of_script words s.0 s.1 s.2 are s.4, s.5)
 
 pub returns-then-is_replay-clause-cut : goal.returns-then-is_replay-clause-cut
 returns-then-is_replay-clause-cut g c =
     λ (e : _).
     let words = c.args.words.now in
     let are = c.is_replay.ensures.0 c.if-is_replay.true in
-    let faults = g.F.Shelf.faults c.args.files.now in
-    let shelf = shelf_alone words faults g.F.Shelf.counts_with (g.F.Shelf.file c.args.files.now) None are in
+    let shelf = shelf_alone words g.F.Shelf.counts_with (g.F.Shelf.seen c.args.files.now) None are in
     let s = c.replay.ensures.cut e in
-    (None, s.0, s.1, s.2, shelf, s.3, front_of_script words None s.0 s.1 s.2 are s.4, s.5)
+    (script_taken s.0 s.1, s.2, record { from_files = shelf; from_input = s.3 }, front_of_script words s.0 s.1 s.2 are s.4, s.5)

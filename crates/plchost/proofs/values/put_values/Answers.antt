@@ -49,7 +49,7 @@ returns-in_err-put_value-clause-no_memory g c =
       rest.0,
       rest.1,
       rest.2,
-      Adds-same (g.K.Sink.held c.args.out.now) (g.K.Sink.held c.loop-at.out) (g.K.Sink.held c.put_value.new.out) c.args.gathered.now.items c.loop-at.gathered.items c.put_value.new.gathered.items (listings c.args.d.now c.args.def inv.0) inv.1 same.0 same.1,
+      Adds-same (g.K.Sink.seen c.args.out.now).held (g.K.Sink.seen c.loop-at.out).held (g.K.Sink.seen c.put_value.new.out).held c.args.gathered.now.items c.loop-at.gathered.items c.put_value.new.gathered.items (listings c.args.d.now c.args.def inv.0) inv.1 same.0 same.1,
     )
 
 pub returns-in_err-put_value-clause-cut : goal.returns-in_err-put_value-clause-cut
@@ -64,13 +64,13 @@ returns-in_err-put_value-clause-cut g c =
     let read = subst (λ (xs : List ℕ). Reads d def [] (bits_of xs) (Ok reading)) (take_rest bytes at) c.in-Ok.ensures.found in
     let goes = one_more_reading d def bytes at reading inv.0 c.loop-at-test.true read (omega arith) (omega arith) inv.3 in
     let rest = some_rest d def bytes (at + reading.bits / 8) (inv.0 ++ reading ∷ []) c.requires.can goes in
-    let h0 = g.K.Sink.held c.args.out.now in
-    let h2 = g.K.Sink.held c.put_value.new.out in
+    let h0 = (g.K.Sink.seen c.args.out.now).held in
+    let h2 = (g.K.Sink.seen c.put_value.new.out).held in
     let t0 = c.args.gathered.now.items in
     let t1 = c.loop-at.gathered.items in
     λ (e : _).
-    let put = subst (λ (fields : List Field). PutsFront (g.K.Sink.held c.loop-at.out) h2 (t1 ++ listing fields reading.node)) c.fields_of-fields.ensures (c.in_err-put_value.ensures.cut (cc)) in
-    let all = PutsFront-after h0 (g.K.Sink.held c.loop-at.out) h2 t0 t1 (listings d def inv.0) (listing (fields_at d def) reading.node) inv.1 put in (
+    let put = subst (λ (fields : List Field). PutsFront (g.K.Sink.seen c.loop-at.out).held h2 (t1 ++ listing fields reading.node)) c.fields_of-fields.ensures (c.in_err-put_value.ensures.cut (cc)) in
+    let all = PutsFront-after h0 (g.K.Sink.seen c.loop-at.out).held h2 t0 t1 (listings d def inv.0) (listing (fields_at d def) reading.node) inv.1 put in (
       inv.0 ++ reading ∷ [],
       rest.0,
       rest.1,
@@ -86,9 +86,9 @@ loop-at-preserved g c =
     let inv = c.loop-at.invariant in
     let reading = c.in-Ok.reading in
     let read = subst (λ (xs : List ℕ). Reads d c.args.def [] (bits_of xs) (Ok reading)) (take_rest bytes at) c.in-Ok.ensures.found in
-    let h0 = g.K.Sink.held c.args.out.now in
-    let h1 = g.K.Sink.held c.loop-at.out in
-    let h2 = g.K.Sink.held c.put_value.new.out in
+    let h0 = (g.K.Sink.seen c.args.out.now).held in
+    let h1 = (g.K.Sink.seen c.loop-at.out).held in
+    let h2 = (g.K.Sink.seen c.put_value.new.out).held in
     let t0 = c.args.gathered.now.items in
     let t1 = c.loop-at.gathered.items in
     let t2 = c.put_value.new.gathered.items in
@@ -114,8 +114,8 @@ returns-in-Err-clause-values g c =
     let def = c.args.def in
     let e = c.in-Err.fault in
     let fault = subst (λ (xs : List ℕ). OfFault e (λ fault. Reads d def [] (bits_of xs) (Err fault))) (take_rest bytes at) c.in-Err.ensures.fault in
-    let h0 = g.K.Sink.held c.args.out.now in
-    let h1 = g.K.Sink.held c.loop-at.out in
+    let h0 = (g.K.Sink.seen c.args.out.now).held in
+    let h1 = (g.K.Sink.seen c.loop-at.out).held in
     let t0 = c.args.gathered.now.items in
     let t1 = c.loop-at.gathered.items in
     let All : Rest → Type 0 = λ rest. (readings : List Reading) × Stream d def [] bytes readings (ending_of rest) × Adds h0 h1 t0 t1 (listings d def readings) in

@@ -10,8 +10,8 @@ use Rattle.plchost.proofs.values.put_values.Given as goal
 abbrev pub invariant-loop-at : goal.invariant-loop-at
 invariant-loop-at g l =
     (readings : List Reading)
-    × Adds (g.K.Sink.held l.fn.out) (g.K.Sink.held l.out) l.fn.gathered.items l.gathered.items (listings l.d l.def readings)
-    × (g.K.Sink.faults l.out ≡ g.K.Sink.faults l.fn.out)
+    × Adds (g.K.Sink.seen l.fn.out).held (g.K.Sink.seen l.out).held l.fn.gathered.items l.gathered.items (listings l.d l.def readings)
+    × ((g.K.Sink.seen l.out).faults ≡ (g.K.Sink.seen l.fn.out).faults)
     × ((more : List Reading) (ending : Ending) → StreamFrom l.d l.def [] (8 * l.at) (bits_of (drop l.at l.bytes)) more ending → Stream l.d l.def [] l.bytes (readings ++ more) ending)
 
 abbrev pub decreases-loop-at : goal.decreases-loop-at

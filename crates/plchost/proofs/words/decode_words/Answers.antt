@@ -11,6 +11,6 @@ returns-then-is_positional-2 c =
     let same : command ≡ codes "decode" = search rules in
     record {
       spelled = three ∙ ap (λ word. word ∷ file ∷ kind ∷ []) same ∙ ap (λ word. codes "decode" ∷ file ∷ word ∷ []) (sym c.as_bytes.ensures.value);
-      file_word = search rules;
+      name_word = search rules;
       kind_word = search rules;
     }

@@ -1,5 +1,5 @@
 use Rattle.std.proofs.Common.{rules, ◌≡◌, List, ℕ, map, take, None, sym, ◌∙◌}
-use Rattle.script_lines.specs.Reading.{command_of}
+use Rattle.script_lines.specs.ReaderParts.{command_of}
 use Rattle.script_lines.specs.Scripts.{words_of}
 use Rattle.script_lines.proofs.LineLaws.{line-read, no_spelling, not_here}
 use Rattle.script_lines.proofs.reading.read_command.Goals as goal

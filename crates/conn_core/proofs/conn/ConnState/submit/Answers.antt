@@ -1,10 +1,13 @@
 use Rattle.std.proofs.Common.{◌≡◌, refl, arith, ◌⊎◌, inl, inr, Err, ap, sym, subst, IsTrue}
+use Rattle.wire_frames.specs.declared.ends.Reason.{Reason}
 use Rattle.conn_core.specs.Rooms.{lists_of}
 use Rattle.conn_core.specs.States.{Grows, Key, State, connection_of, state_after}
-use Rattle.conn_core.specs.Steps.{submit, started_answer}
+use Rattle.conn_core.specs.Steps.{accepted_of, answer_of, submit, started_answer}
+use Rattle.conn_core.specs.TableLaw.{ClosesWith}
 use Rattle.conn_core.specs.declared.answers.SubmitRefusal.TheVariants as refusals
 use Rattle.conn_core.specs.declared.entries.Event.TheVariants as events
 use Rattle.conn_core.proofs.AskLemmas.{submit_carries}
+use Rattle.conn_core.proofs.ClosedCauses.{closed_cause, given_closed, submit_closed}
 use Rattle.conn_core.proofs.StateLemmas.{handed_grows, handed_state, submitted_after}
 use Rattle.conn_core.proofs.conn.ConnState.submit.Goals as goal
 
@@ -44,3 +47,12 @@ returns-clause-grows g c =
 
 pub returns-clause-legal : goal.returns-clause-legal
 returns-clause-legal g c = (invariant_of-self g c).legal
+
+pub returns-clause-closed : goal.returns-clause-closed
+returns-clause-closed g c =
+    let k = c.self.inside.kept in
+    let s = c.self.inside.settings in
+    let connection = connection_of g.W.Wire.meaning (record { wire = c.self.inside.wire; settings = s }) in
+    let t = lists_of k.table in
+    subst (λ (v : State _). (reason : Reason) → c.submit.result ≡ Err (refusals.Closed reason) → ClosesWith v.journal reason) c.self.view_is
+    (λ reason is. closed_cause connection k reason c.self.invariant (submit_closed connection.wire t (record { actor = c.args.actor; lease = c.args.lease; ask = c.args.ask; timeout = c.args.timeout_ms; moment = c.args.now }) reason (given_closed refusals.NoMemory (refusals.Closed reason) c.submit.result (accepted_of (answer_of (submit connection.wire t (record { actor = c.args.actor; lease = c.args.lease; ask = c.args.ask; timeout = c.args.timeout_ms; moment = c.args.now })))) (λ same. cc) c.submit.ensures.answer is)))

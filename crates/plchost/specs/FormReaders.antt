@@ -1,4 +1,5 @@
--- What the readers of a text in the first form give, one part at a time.
+-- What the private readers of a text in the first form give, part by part. Which texts are in the form is said in FirstForm,
+-- and the laws in proofs/ lead from here to there.
 use Rattle.std.specs.Prelude.{◌≡◌, ◌==◌, ℕ, Bool, true, false, cond, List, [], ◌∷◌, ◌++◌, map, codes, Option, Some, None, option_and_then, if◌then◌else◌}
 use Rattle.std.specs.Char.{is_ascii_digit}
 use Rattle.std.specs.List.{list_any, flat_map}

@@ -1,4 +1,5 @@
--- What the readers of a line give, one part at a time.
+-- What the private readers of a line give, part by part. What a line means is said in Scripts, and the laws in proofs/ lead
+-- from here to there.
 use Rattle.std.specs.Prelude.{◌≡◌, ◌^◌, ◌==◌, ◌&&◌, nat_lt, nat_le, ℕ, Bool, List, [], ◌∷◌, length, codes, Option, Some, None, Result, Ok, Err, option_and_then, if◌then◌else◌}
 use Rattle.std.specs.Char.{is_ascii_digit}
 use Rattle.std.specs.List.{list_all}
@@ -19,11 +20,11 @@ infixl 10 ◌>>=◌
 abbrev pub ◌>>=◌ : {A B : Type 0} → Option A → (A → Option B) → Option B
 o >>= f = option_and_then f o
 
--- what a function returned is what reading gives, but for memory
-abbrev pub Reads : {X : Type 0} → Result X LineFault → Option X → Type 0
-Reads (Ok x) read = read ≡ Some x
-Reads (Err Refused) read = read ≡ None
-Reads (Err NoMemory) read = Unit {0}
+-- what a function returned is given by this reading, unless memory ran out
+abbrev pub IsGivenBy : {X : Type 0} → Result X LineFault → Option X → Type 0
+IsGivenBy (Ok x) read = read ≡ Some x
+IsGivenBy (Err Refused) read = read ≡ None
+IsGivenBy (Err NoMemory) read = Unit {0}
 
 -- ---- words
 

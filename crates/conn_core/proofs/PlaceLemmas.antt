@@ -1,0 +1,82 @@
+-- A journal with one entry more, by its places.
+use Rattle.std.proofs.Common.{◌≡◌, ◌⊎◌, inl, inr, ℕ, zero, suc, List, [], ◌∷◌, ◌++◌, Option, Some, None, length, refl, sym, ap, ◌∙◌}
+use Rattle.std.specs.Prelude.{◌↔◌}
+use Rattle.std.specs.List.{slice_get}
+use Rattle.wire_frames.specs.declared.ends.Reason.{Reason}
+use Rattle.conn_core.specs.Entries.{clock_by, clock_from, clock_of, closing_reason}
+use Rattle.conn_core.specs.LeaseLists.{LeaseLists, leases_after, leases_from, no_leases}
+use Rattle.conn_core.specs.TableLaw.{ClosesWith, leases_in}
+use Rattle.conn_core.specs.Tables.{Table}
+use Rattle.conn_core.specs.declared.entries.Entry.{Entry}
+use Rattle.conn_core.specs.declared.settings.Settings.{Settings}
+use Rattle.conn_core.proofs.FollowLemmas.{Follows, closed_after}
+
+clock_more : (clock : ℕ) (xs : List Entry) (e : Entry) → clock_from clock (xs ++ e ∷ []) ≡ clock_by (clock_from clock xs) e.event
+clock_more clock [] e = refl
+clock_more clock (x ∷ xs) e = clock_more (clock_by clock x.event) xs e
+
+leases_more : (s : Settings) (l : LeaseLists) (xs : List Entry) (e : Entry) → leases_from s l (xs ++ e ∷ []) ≡ leases_after s (leases_from s l xs) e
+leases_more s l [] e = refl
+leases_more s l (x ∷ xs) e = leases_more s (leases_after s l x) xs e
+
+stands_before : (xs : List Entry) (e : Entry) (k : ℕ) (x : Entry) → slice_get xs k ≡ Some x → slice_get (xs ++ e ∷ []) k ≡ Some x
+stands_before [] e k x h = absurd (cc)
+stands_before (y ∷ ys) e zero x h = h
+stands_before (y ∷ ys) e (suc k) x h = stands_before ys e k x h
+
+stands_last : (xs : List Entry) (e : Entry) → slice_get (xs ++ e ∷ []) (length xs) ≡ Some e
+stands_last [] e = refl
+stands_last (y ∷ ys) e = stands_last ys e
+
+-- what stands in it stood before, or is the last entry
+stands_cases : (xs : List Entry) (e : Entry) (k : ℕ) (x : Entry) → slice_get (xs ++ e ∷ []) k ≡ Some x → (slice_get xs k ≡ Some x) ⊎ (e ≡ x)
+stands_cases [] e zero x h = inr (cc)
+stands_cases [] e (suc k) x h = absurd (cc)
+stands_cases (y ∷ ys) e zero x h = inl h
+stands_cases (y ∷ ys) e (suc k) x h = stands_cases ys e k x h
+
+closes_before : (xs : List Entry) (e : Entry) (reason : Reason) → ClosesWith xs reason → ClosesWith (xs ++ e ∷ []) reason
+closes_before xs e reason closes = (closes.0, closes.1, stands_before xs e closes.0 closes.1 closes.2, closes.3)
+
+closes_last : (xs : List Entry) (e : Entry) (reason : Reason) → closing_reason e ≡ Some reason → ClosesWith (xs ++ e ∷ []) reason
+closes_last xs e reason closing = (length xs, e, stands_last xs e, closing)
+
+closes_cases : (xs : List Entry) (e : Entry) (reason : Reason) → ClosesWith (xs ++ e ∷ []) reason → ClosesWith xs reason ⊎ (closing_reason e ≡ Some reason)
+closes_cases xs e reason closes =
+    elim (stands_cases xs e closes.0 closes.1 closes.2) [
+      | inl stood ↦ inl (closes.0, closes.1, stood, closes.3)
+      | inr last ↦ inr (ap (λ (x : Entry). closing_reason x) last ∙ closes.3)
+    ]
+
+-- a table's clock, leases and close are those of a journal's places
+pub record IsAfter (s : Settings) (journal : List Entry) (t : Table) : Type 0 where
+  pub clock : t.clock ≡ clock_of journal
+  pub leases : leases_in t ≡ leases_from s no_leases journal
+  pub closed : (reason : Reason) → (t.closed ≡ Some reason) ↔ ClosesWith journal reason
+
+closed_then : (journal : List Entry) (e : Entry) (was now : Option Reason) (reason : Reason) (o : Option Reason) → closing_reason e ≡ o → now ≡ closed_after o was → (was ≡ Some reason → ClosesWith journal reason) → now ≡ Some reason → ClosesWith (journal ++ e ∷ []) reason
+closed_then journal e was now reason None is after before h = closes_before journal e reason (before (sym after ∙ h))
+closed_then journal e was now reason (Some other) is after before h = closes_last journal e reason (is ∙ sym after ∙ h)
+
+-- a closed table stays closed
+stays_closed : (e : Entry) (was now : Option Reason) (reason : Reason) (o : Option Reason) → closing_reason e ≡ o → now ≡ closed_after o was → ((by : Reason) → closing_reason e ≡ Some by → was ≡ None) → was ≡ Some reason → now ≡ Some reason
+stays_closed e was now reason None is after opens h = after ∙ h
+stays_closed e was now reason (Some by) is after opens h = let none = opens by is in absurd (cc)
+
+closed_by_last : (e : Entry) (was now : Option Reason) (reason : Reason) → now ≡ closed_after (closing_reason e) was → closing_reason e ≡ Some reason → now ≡ Some reason
+closed_by_last e was now reason after is = after ∙ ap (λ o. closed_after o was) is
+
+-- one entry more leads from one such table to the next
+pub one_more : (s : Settings) (journal : List Entry) (t : Table) (e : Entry) (u : Table) → IsAfter s journal t → Follows s t e u → IsAfter s (journal ++ e ∷ []) u
+one_more s journal t e u after follows =
+    record {
+      clock = follows.clock ∙ ap (λ n. clock_by n e.event) after.clock ∙ sym (clock_more 0 journal e);
+      leases = follows.leases ∙ ap (λ l. leases_after s l e) after.leases ∙ sym (leases_more s no_leases journal e);
+      closed = λ reason. (
+        closed_then journal e t.closed u.closed reason (closing_reason e) refl follows.closed (after.closed reason).0,
+        λ closes. elim (closes_cases journal e reason closes) [
+          | inl before ↦ stays_closed e t.closed u.closed reason (closing_reason e) refl follows.closed follows.was_open ((after.closed reason).1 before)
+          | inr last ↦ closed_by_last e t.closed u.closed reason follows.closed last
+        ],
+      );
+    }

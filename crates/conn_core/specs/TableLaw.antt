@@ -1,0 +1,29 @@
+-- What the table after a journal and the places of the journal say alike: the clock, the leases and the close.
+use Rattle.std.specs.Prelude.{◌≡◌, ◌↔◌, ℕ, List, Some, None}
+use Rattle.std.specs.List.{slice_get}
+use Rattle.wire_frames.specs.declared.ends.Reason.{Reason}
+use Rattle.conn_core.specs.Entries.{clock_of, closing_reason}
+use Rattle.conn_core.specs.Journals.{table_of}
+use Rattle.conn_core.specs.LeaseLists.{LeaseLists, leases_from, no_leases}
+use Rattle.conn_core.specs.Tables.{Connection, Table}
+use Rattle.conn_core.specs.declared.entries.Entry.{Entry}
+
+-- the leases and waiters of a table
+abbrev pub leases_in : Table → LeaseLists
+leases_in t = record { held = t.held; waiting = t.waiting; clock = t.clock; drawn = t.leases_drawn }
+
+-- an entry of the journal closes with this reason
+abbrev pub ClosesWith : List Entry → Reason → Type 0
+ClosesWith journal reason = (k : ℕ) × (e : Entry) × (slice_get journal k ≡ Some e) × (closing_reason e ≡ Some reason)
+
+-- no entry of the journal closes
+abbrev pub NoneCloses : List Entry → Type 0
+NoneCloses journal = (k : ℕ) (e : Entry) → slice_get journal k ≡ Some e → closing_reason e ≡ None
+
+pub record TableLaw (c : Connection) (journal : List Entry) : Type 0 where
+  -- The clock is the greatest moment.
+  pub clock : (table_of c journal).clock ≡ clock_of journal
+  -- Leases are held and waited for by their own rules.
+  pub leases : leases_in (table_of c journal) ≡ leases_from c.settings no_leases journal
+  -- It is closed exactly where an entry closes, with that entry's reason.
+  pub closed : (reason : Reason) → ((table_of c journal).closed ≡ Some reason) ↔ ClosesWith journal reason

@@ -1,0 +1,163 @@
+use crate::{can_read, read_plain};
+use mspec_tree::{
+    Body, ByteOrder, Def, DefBody, Description, Field, FieldList, Param, ParamList, Place, Ref,
+    Simple,
+};
+use node_tree::{Node, ReadFault, Reading, Span};
+use sqlite_items::Items;
+use std::alloc::{AllocError, Global};
+use std::test::Fail;
+
+const NO_PLACE: Place = Place { line: 1, column: 1 };
+
+/// A field of an unsigned number.
+#[derive(Clone, Copy)]
+struct Number {
+    width: u8,
+    order: Option<ByteOrder>,
+}
+
+const BYTE: Number = Number {
+    width: 8,
+    order: None,
+};
+
+const WORD: Number = Number {
+    width: 16,
+    order: None,
+};
+
+const LITTLE_WORD: Number = Number {
+    width: 16,
+    order: Some(ByteOrder::Little),
+};
+
+const TWELVE_BITS: Number = Number {
+    width: 12,
+    order: None,
+};
+
+/// A type of such fields, with so many parameters.
+#[derive(Clone, Copy)]
+struct Form {
+    fields: &'static [Number],
+    order: Option<ByteOrder>,
+    params: usize,
+}
+
+const PLAIN: Form = Form {
+    fields: &[BYTE, WORD],
+    order: None,
+    params: 0,
+};
+
+fn fields_of(alloc: Global, numbers: &[Number]) -> Result<FieldList, AllocError> {
+    let mut fields = Items::new(alloc);
+    for number in numbers {
+        fields.push(Field {
+            place: NO_PLACE,
+            named: NO_PLACE,
+            name: Items::from_slice(alloc, b"x")?,
+            order: number.order,
+            body: Body::Simple(Ref::Plain(Simple::Uint(number.width))),
+        })?;
+    }
+    Ok(fields)
+}
+
+fn params_of(alloc: Global, count: usize) -> Result<ParamList, AllocError> {
+    let mut params = Items::new(alloc);
+    for _ in 0..count {
+        params.push(Param {
+            place: NO_PLACE,
+            kind: Ref::Plain(Simple::Uint(8)),
+            name: Items::from_slice(alloc, b"p")?,
+        })?;
+    }
+    Ok(params)
+}
+
+/// The description of one type.
+fn description_of(alloc: Global, form: &Form) -> Result<Description, AllocError> {
+    let mut defs = Items::new(alloc);
+    defs.push(Def {
+        place: NO_PLACE,
+        named: NO_PLACE,
+        name: Items::from_slice(alloc, b"B")?,
+        params: params_of(alloc, form.params)?,
+        order: form.order,
+        body: DefBody::Plain(fields_of(alloc, form.fields)?),
+    })?;
+    Ok(Description { defs })
+}
+
+/// What bytes give by the one type of a description, if it can be read.
+fn read(alloc: Global, d: &Description, bytes: &[u8]) -> Option<Result<Reading, ReadFault>> {
+    if can_read(d, 0, &[]) {
+        Some(read_plain(alloc, d, 0, &[], bytes))
+    } else {
+        None
+    }
+}
+
+#[test]
+fn bytes_are_read(rt: HostRuntime) -> Result<(), Fail> {
+    let d = description_of(rt.alloc(), &PLAIN)?;
+    let reading = read(rt.alloc(), &d, &[1, 0, 2]).ok_or("not plain")??;
+    assert_eq!(rt; reading.bits, 24);
+    assert_eq!(rt;
+        reading.spans.as_slice(),
+        [
+            Span { from: 0, to: 24 },
+            Span { from: 0, to: 8 },
+            Span { from: 8, to: 24 }
+        ]
+        .as_slice()
+    );
+    let Node::Group { case: 0, entries } = &reading.node else {
+        return Err(Fail::from("no type's value"));
+    };
+    let [Node::Num(first), Node::Num(second)] = entries.as_slice() else {
+        return Err(Fail::from("no two numbers"));
+    };
+    assert_eq!(rt; (*first, *second), (1, 2));
+    Ok(())
+}
+
+#[test]
+fn bytes_that_are_missing_are_told(rt: HostRuntime) -> Result<(), Fail> {
+    let d = description_of(rt.alloc(), &PLAIN)?;
+    for bytes in [[1, 0].as_slice(), &[1], &[]] {
+        let outcome = read(rt.alloc(), &d, bytes).ok_or("not plain")?;
+        assert!(rt; matches!(outcome, Err(ReadFault::Short)), "{bytes:?}");
+    }
+    Ok(())
+}
+
+#[test]
+fn only_plain_types_can_be_read(rt: HostRuntime) -> Result<(), Fail> {
+    let plain = description_of(rt.alloc(), &PLAIN)?;
+    assert!(rt; can_read(&plain, 0, &[]));
+    assert!(rt; !can_read(&plain, 0, &[7]));
+    assert!(rt; !can_read(&plain, 1, &[]));
+    let others = [
+        Form {
+            fields: &[BYTE, TWELVE_BITS],
+            ..PLAIN
+        },
+        Form {
+            fields: &[BYTE, LITTLE_WORD],
+            ..PLAIN
+        },
+        Form {
+            order: Some(ByteOrder::Little),
+            ..PLAIN
+        },
+        Form { params: 1, ..PLAIN },
+    ];
+    for (i, other) in others.iter().enumerate() {
+        let d = description_of(rt.alloc(), other)?;
+        assert!(rt; !can_read(&d, 0, &[]), "{i}");
+    }
+    Ok(())
+}

@@ -1,0 +1,8 @@
+ghost use Rattle.std.specs.Prelude.{ℕ, ◌<◌, ◌≤◌, ◌^◌, List, length};
+ghost use Rattle.wire_frames.specs.RawCarries.{RawCarries};
+
+/// What a raw frame carries, its payload and its reference, is read back from it.
+pub fn raw_frames_carry()
+    ensures { (payload : List ℕ) (reference : ℕ)
+        → length payload ≤ 4092 → reference < 2 ^ 16 → RawCarries payload reference }
+{}
