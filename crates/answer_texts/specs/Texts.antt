@@ -97,6 +97,14 @@ value_text (Raw bits width) = raw_text bits width
 abbrev pub values_text : List PlcValue → List ℕ
 values_text values = join_with_byte 44 (map value_text values)
 
--- how a request ended, and a word for each item that was read
+-- a word for each item, each behind a blank
+abbrev pub items_text : List (List PlcValue) → List ℕ
+items_text items = flat_map (λ values. codes " " ++ values_text values) items
+
+-- how a request ended; only one that is done goes on with a word for each item that was read
+abbrev pub ended_text : EndKind → List (List PlcValue) → List ℕ
+ended_text Done items = kind_text Done ++ items_text items
+ended_text kind items = kind_text kind
+
 abbrev pub outcome_text : Outcome → List ℕ
-outcome_text outcome = kind_text outcome.kind ++ flat_map (λ values. codes " " ++ values_text values) outcome.values
+outcome_text outcome = ended_text outcome.kind outcome.values

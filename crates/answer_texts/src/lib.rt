@@ -1,13 +1,19 @@
-//! How the answers of a request table are spelled: one line each, of words that stand apart by one blank.
+//! How the answers of a request table are spelled: one line each, of words that stand apart by one blank where no frame and no
+//! item's values are empty.
 #![tactic(auto)]
 
+mod additions;
 mod answers;
+mod laws;
 mod outcomes;
 mod reasons;
 #[cfg(test)]
 mod tests;
 mod values;
 
-pub use answers::{add_asked, add_cancelled, add_collected, add_received, add_sent, add_submitted};
-pub use outcomes::{add_kind, add_outcome};
-pub use reasons::{add_frame_why, add_reason, read_why_text, write_why_text};
+pub use additions::{
+    add_asked, add_cancelled, add_collected, add_frame_why, add_kind, add_outcome, add_reason,
+    add_received, add_sent, add_submitted,
+};
+pub use laws::{answers_are_lines, words_stand_apart};
+pub use reasons::{read_why_text, write_why_text};

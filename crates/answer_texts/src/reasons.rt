@@ -1,4 +1,5 @@
-ghost use Rattle.std.specs.Prelude.{◌≡◌, ◌++◌, codes, decimal, take, length, MatchResult};
+ghost use Rattle.std.specs.Prelude.{◌≡◌, ◌++◌, codes, decimal};
+ghost use Rattle.node_tree.specs.Appends.{Appends};
 ghost use Rattle.answer_texts.specs.Texts.{eval_fault_text, read_why_text, write_why_text, frame_why_text, reason_text};
 
 use itoa::Buffer;
@@ -54,62 +55,58 @@ pub fn write_why_text(why: WriteWhy) -> &'static [u8]
     }
 }
 
-fn add_number(text: &mut Vec<u8>, number: u64) -> Result<(), AllocError>
-    ensures { MatchResult result
-        (λ _. text.new.items ≡ text.old.items ++ decimal number)
-        (λ _. take (length text.old.items) text.new.items ≡ text.old.items) }
+fn append_number(text: &mut Vec<u8>, number: u64) -> Result<(), AllocError>
+    ensures { Appends result text.old.items text.new.items (decimal number) }
 {
     let mut buffer = Buffer::new();
     text.extend_from_slice(buffer.format(number).as_bytes())
 }
 
 /// Adds words and a number. An `Err` leaves a text that begins as before.
-pub(crate) fn add_numbered(text: &mut Vec<u8>, words: &[u8], number: u64) -> Result<(), AllocError>
-    ensures { MatchResult result
-        (λ _. text.new.items ≡ text.old.items ++ (words.now ++ decimal number))
-        (λ _. take (length text.old.items) text.new.items ≡ text.old.items) }
+pub(crate) fn append_numbered(
+    text: &mut Vec<u8>,
+    words: &[u8],
+    number: u64,
+) -> Result<(), AllocError>
+    ensures { Appends result text.old.items text.new.items (words.now ++ decimal number) }
 {
     text.extend_from_slice(words)?;
-    add_number(text, number)
+    append_number(text, number)
 }
 
 /// Adds words, a number and a blank. An `Err` leaves a text that begins as before.
-pub(crate) fn add_spaced(text: &mut Vec<u8>, words: &[u8], number: u64) -> Result<(), AllocError>
-    ensures { MatchResult result
-        (λ _. text.new.items ≡ text.old.items ++ (words.now ++ decimal number ++ codes " "))
-        (λ _. take (length text.old.items) text.new.items ≡ text.old.items) }
+pub(crate) fn append_spaced(text: &mut Vec<u8>, words: &[u8], number: u64) -> Result<(), AllocError>
+    ensures { Appends result text.old.items text.new.items
+        (words.now ++ decimal number ++ codes " ") }
 {
-    add_numbered(text, words, number)?;
+    append_numbered(text, words, number)?;
     text.extend_from_slice(b" ")
 }
 
 /// Adds words and two numbers. An `Err` leaves a text that begins as before.
-pub(crate) fn add_pair(
+pub(crate) fn append_pair(
     text: &mut Vec<u8>,
     words: &[u8],
     first: u64,
     second: u64,
 ) -> Result<(), AllocError>
-    ensures { MatchResult result
-        (λ _. text.new.items ≡ text.old.items ++ (words.now ++ decimal first ++ codes " " ++ decimal second))
-        (λ _. take (length text.old.items) text.new.items ≡ text.old.items) }
+    ensures { Appends result text.old.items text.new.items
+        (words.now ++ decimal first ++ codes " " ++ decimal second) }
 {
-    add_spaced(text, words, first)?;
-    add_number(text, second)
+    append_spaced(text, words, first)?;
+    append_number(text, second)
 }
 
 /// Adds why a frame can't be read. An `Err` leaves a text that begins as before.
-pub fn add_frame_why(text: &mut Vec<u8>, why: FrameWhy) -> Result<(), AllocError>
-    ensures { MatchResult result
-        (λ _. text.new.items ≡ text.old.items ++ frame_why_text why)
-        (λ _. take (length text.old.items) text.new.items ≡ text.old.items) }
+pub(crate) fn append_frame_why(text: &mut Vec<u8>, why: FrameWhy) -> Result<(), AllocError>
+    ensures { Appends result text.old.items text.new.items (frame_why_text why) }
 {
     match why {
-        FrameWhy::Length { got } => add_numbered(text, b"length ", u64::from(got)),
+        FrameWhy::Length { got } => append_numbered(text, b"length ", u64::from(got)),
         FrameWhy::Short => text.extend_from_slice(b"short"),
-        FrameWhy::Unused { bits } => add_numbered(text, b"unused ", u64::from(bits)),
+        FrameWhy::Unused { bits } => append_numbered(text, b"unused ", u64::from(bits)),
         FrameWhy::Bad { bit, why } => {
-            add_spaced(text, b"bad ", u64::from(bit))?;
+            append_spaced(text, b"bad ", u64::from(bit))?;
             text.extend_from_slice(read_why_text(why))
         }
         FrameWhy::NotReply => text.extend_from_slice(b"not reply"),
@@ -117,30 +114,27 @@ pub fn add_frame_why(text: &mut Vec<u8>, why: FrameWhy) -> Result<(), AllocError
 }
 
 /// Adds that the frame with this number can't be read, and why. An `Err` leaves a text that begins as before.
-pub(crate) fn add_undecodable(
+pub(crate) fn append_undecodable(
     text: &mut Vec<u8>,
     index: u64,
     why: FrameWhy,
 ) -> Result<(), AllocError>
-    ensures { MatchResult result
-        (λ _. text.new.items ≡ text.old.items ++ (codes "undecodable " ++ decimal index ++ codes " " ++ frame_why_text why))
-        (λ _. take (length text.old.items) text.new.items ≡ text.old.items) }
+    ensures { Appends result text.old.items text.new.items
+        (codes "undecodable " ++ decimal index ++ codes " " ++ frame_why_text why) }
 {
-    add_spaced(text, b"undecodable ", index)?;
-    add_frame_why(text, why)
+    append_spaced(text, b"undecodable ", index)?;
+    append_frame_why(text, why)
 }
 
 /// Adds why a connection closed. An `Err` leaves a text that begins as before.
-pub fn add_reason(text: &mut Vec<u8>, reason: Reason) -> Result<(), AllocError>
-    ensures { MatchResult result
-        (λ _. text.new.items ≡ text.old.items ++ reason_text reason)
-        (λ _. take (length text.old.items) text.new.items ≡ text.old.items) }
+pub(crate) fn append_reason(text: &mut Vec<u8>, reason: Reason) -> Result<(), AllocError>
+    ensures { Appends result text.old.items text.new.items (reason_text reason) }
 {
     match reason {
         Reason::PeerEnded => text.extend_from_slice(b"peer ended"),
         Reason::ReadFault => text.extend_from_slice(b"read fault"),
         Reason::WriteFault => text.extend_from_slice(b"write fault"),
-        Reason::Undecodable { index, why } => add_undecodable(text, index, why),
+        Reason::Undecodable { index, why } => append_undecodable(text, index, why),
         Reason::Worn => text.extend_from_slice(b"worn"),
         Reason::Asked => text.extend_from_slice(b"asked"),
         Reason::NoMemory => text.extend_from_slice(b"no memory"),

@@ -13,46 +13,14 @@ use std::test::Fail;
 use wire_frames::{EndKind, FrameWhy, Outcome, PlcValue, Reason, ValueRows};
 
 #[test]
-fn names_why_bits_are_no_value(rt: HostRuntime) -> Result<(), Fail> {
-    let cases: [(ReadWhy, &[u8]); 12] = [
-        (ReadWhy::ConstMismatch, b"ConstMismatch"),
-        (ReadWhy::NoCase, b"NoCase"),
-        (ReadWhy::CountRange, b"CountRange"),
-        (ReadWhy::LengthOverrun, b"LengthOverrun"),
-        (ReadWhy::ZeroItem, b"ZeroItem"),
-        (ReadWhy::ValueRange, b"ValueRange"),
-        (ReadWhy::ChecksumMismatch, b"ChecksumMismatch"),
-        (ReadWhy::NullAccess, b"NullAccess"),
-        (ReadWhy::CastFails, b"CastFails"),
-        (ReadWhy::EnumAttr, b"EnumAttr"),
-        (ReadWhy::TooDeep, b"TooDeep"),
-        (ReadWhy::TooLong, b"TooLong"),
-    ];
-    for (why, text) in &cases {
-        assert_eq!(rt; read_why_text(*why), *text);
-    }
-    Ok(())
-}
-
-#[test]
-fn names_why_a_value_cant_be_written(rt: HostRuntime) -> Result<(), Fail> {
-    let cases: [(WriteWhy, &[u8]); 12] = [
-        (WriteWhy::LocalDisagrees, b"LocalDisagrees"),
-        (WriteWhy::CountDisagrees, b"CountDisagrees"),
-        (WriteWhy::CaseDisagrees, b"CaseDisagrees"),
-        (WriteWhy::ValueRange, b"ValueRange"),
-        (WriteWhy::Shape, b"Shape"),
-        (WriteWhy::ZeroItem, b"ZeroItem"),
-        (WriteWhy::Eval(EvalFault::NullAccess), b"NullAccess"),
-        (WriteWhy::Eval(EvalFault::CastFails), b"CastFails"),
-        (WriteWhy::Eval(EvalFault::EnumAttr), b"EnumAttr"),
-        (WriteWhy::Unaligned, b"Unaligned"),
-        (WriteWhy::TooLong, b"TooLong"),
-        (WriteWhy::TooDeep, b"TooDeep"),
-    ];
-    for (why, text) in &cases {
-        assert_eq!(rt; write_why_text(*why), *text);
-    }
+fn names_why_a_value_cant_be_read_or_written(rt: HostRuntime) -> Result<(), Fail> {
+    assert_eq!(rt; read_why_text(ReadWhy::NoCase), b"NoCase".as_slice());
+    assert_eq!(rt; write_why_text(WriteWhy::Shape), b"Shape".as_slice());
+    let fault = EvalFault::CastFails;
+    assert_eq!(rt;
+        write_why_text(WriteWhy::Eval(fault)),
+        b"CastFails".as_slice()
+    );
     Ok(())
 }
 
@@ -122,15 +90,12 @@ fn spells_how_a_request_ended(rt: HostRuntime) -> Result<(), Fail> {
     Ok(())
 }
 
-fn done(alloc: Global, rows: &[&[PlcValue]]) -> Result<Outcome, AllocError> {
+fn ended(alloc: Global, kind: EndKind, rows: &[&[PlcValue]]) -> Result<Outcome, AllocError> {
     let mut values = ValueRows::new(alloc);
     for row in rows {
         values.push(OwnedList::from_slice(alloc, *row)?)?;
     }
-    Ok(Outcome {
-        kind: EndKind::Done,
-        values,
-    })
+    Ok(Outcome { kind, values })
 }
 
 #[test]
@@ -141,7 +106,7 @@ fn spells_a_word_for_each_item(rt: HostRuntime) -> Result<(), Fail> {
     let numbers = [PlcValue::Whole(10), PlcValue::Whole(-20)];
     let short = [raw(0x3f80_000a, 32)];
     let long = [raw(0xbff0_0000_0000_000a, 64)];
-    let outcome = done(alloc, &[&flags, &numbers, &short, &long])?;
+    let outcome = ended(alloc, EndKind::Done, &[&flags, &numbers, &short, &long])?;
     let mut text = Vec::from_slice(alloc, b"> ")?;
     add_outcome(&mut text, &outcome)?;
     let wanted = b"> done true,false 10,-20 16#3F80000A 16#BFF000000000000A";
@@ -288,8 +253,11 @@ fn check_collected(
 #[test]
 fn answers_a_collection(rt: HostRuntime) -> Result<(), Fail> {
     let alloc = rt.alloc();
-    let outcome = done(alloc, &[&[PlcValue::Whole(10), PlcValue::Whole(20)]])?;
-    check_collected(&rt, alloc, &Ok(outcome), b"done 10,20")?;
+    let row = [PlcValue::Whole(10), PlcValue::Whole(20)];
+    let done = ended(alloc, EndKind::Done, &[&row])?;
+    check_collected(&rt, alloc, &Ok(done), b"done 10,20")?;
+    let cancelled = ended(alloc, EndKind::Cancelled, &[&row])?;
+    check_collected(&rt, alloc, &Ok(cancelled), b"cancelled")?;
     check_collected(&rt, alloc, &Err(TakeRefusal::Pending), b"pending")?;
     check_collected(&rt, alloc, &Err(TakeRefusal::NoRequest), b"no request")
 }

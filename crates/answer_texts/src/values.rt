@@ -1,18 +1,17 @@
-ghost use Rattle.std.specs.Prelude.{◌≡◌, ◌∷◌, ◌++◌, codes, take, length, IfOk, MatchResult};
+ghost use Rattle.std.specs.Prelude.{◌≡◌, ◌∷◌, ◌++◌, codes, IfOk};
 ghost use Rattle.std.specs.List.{flat_map};
 ghost use Rattle.std.specs.String.{string_bytes};
 ghost use Rattle.hex.specs.Hex.{encode_lower};
-ghost use Rattle.answer_texts.specs.Texts.{raw_text, value_text, values_text};
+ghost use Rattle.node_tree.specs.Appends.{Appends};
+ghost use Rattle.answer_texts.specs.Texts.{items_text, raw_text, value_text, values_text};
 
 use itoa::Buffer;
 use std::alloc::{AllocError, Global};
 use wire_frames::{PlcValue, ValueList};
 
 /// Adds bytes as pairs of small digits. An `Err` leaves a text that begins as before.
-pub(crate) fn add_hex(text: &mut Vec<u8>, bytes: &[u8]) -> Result<(), AllocError>
-    ensures { MatchResult result
-        (λ _. text.new.items ≡ text.old.items ++ encode_lower bytes.now)
-        (λ _. take (length text.old.items) text.new.items ≡ text.old.items) }
+pub(crate) fn append_hex(text: &mut Vec<u8>, bytes: &[u8]) -> Result<(), AllocError>
+    ensures { Appends result text.old.items text.new.items (encode_lower bytes.now) }
 {
     let digits = hex::encode(*text.allocator(), bytes)?;
     text.extend_from_slice(digits.as_bytes())
@@ -30,20 +29,16 @@ fn raw_digits(alloc: Global, bits: u64, width: u8) -> Result<String, AllocError>
     }
 }
 
-fn add_raw(text: &mut Vec<u8>, bits: u64, width: u8) -> Result<(), AllocError>
-    ensures { MatchResult result
-        (λ _. text.new.items ≡ text.old.items ++ raw_text bits width)
-        (λ _. take (length text.old.items) text.new.items ≡ text.old.items) }
+fn append_raw(text: &mut Vec<u8>, bits: u64, width: u8) -> Result<(), AllocError>
+    ensures { Appends result text.old.items text.new.items (raw_text bits width) }
 {
     let digits = raw_digits(*text.allocator(), bits, width)?;
     text.extend_from_slice(b"16#")?;
     text.extend_from_slice(digits.as_bytes())
 }
 
-fn add_value(text: &mut Vec<u8>, value: PlcValue) -> Result<(), AllocError>
-    ensures { MatchResult result
-        (λ _. text.new.items ≡ text.old.items ++ value_text value)
-        (λ _. take (length text.old.items) text.new.items ≡ text.old.items) }
+fn append_value(text: &mut Vec<u8>, value: PlcValue) -> Result<(), AllocError>
+    ensures { Appends result text.old.items text.new.items (value_text value) }
 {
     match value {
         PlcValue::Bool(true) => text.extend_from_slice(b"true"),
@@ -52,46 +47,41 @@ fn add_value(text: &mut Vec<u8>, value: PlcValue) -> Result<(), AllocError>
             let mut buffer = Buffer::new();
             text.extend_from_slice(buffer.format(number).as_bytes())
         }
-        PlcValue::Raw { bits, width } => add_raw(text, bits, width),
+        PlcValue::Raw { bits, width } => append_raw(text, bits, width),
     }
 }
 
 /// Adds values, each behind a comma.
-fn add_more(text: &mut Vec<u8>, values: &[PlcValue]) -> Result<(), AllocError>
-    ensures { MatchResult result
-        (λ _. text.new.items ≡ text.old.items ++ flat_map (λ value. 44 ∷ value_text value) values.now)
-        (λ _. take (length text.old.items) text.new.items ≡ text.old.items) }
+fn append_more(text: &mut Vec<u8>, values: &[PlcValue]) -> Result<(), AllocError>
+    ensures { Appends result text.old.items text.new.items
+        (flat_map (λ value. 44 ∷ value_text value) values.now) }
 {
     for value in values {
         text.extend_from_slice(b",")?;
-        add_value(text, *value)?;
+        append_value(text, *value)?;
     }
     Ok(())
 }
 
-fn add_values(text: &mut Vec<u8>, values: &[PlcValue]) -> Result<(), AllocError>
-    ensures { MatchResult result
-        (λ _. text.new.items ≡ text.old.items ++ values_text values.now)
-        (λ _. take (length text.old.items) text.new.items ≡ text.old.items) }
+fn append_values(text: &mut Vec<u8>, values: &[PlcValue]) -> Result<(), AllocError>
+    ensures { Appends result text.old.items text.new.items (values_text values.now) }
 {
     match values {
         [] => Ok(()),
         [first, more @ ..] => {
-            add_value(text, *first)?;
-            add_more(text, more)
+            append_value(text, *first)?;
+            append_more(text, more)
         }
     }
 }
 
 /// Adds a word for each row. An `Err` leaves a text that begins as before.
-pub(crate) fn add_rows(text: &mut Vec<u8>, rows: &[ValueList]) -> Result<(), AllocError>
-    ensures { MatchResult result
-        (λ _. text.new.items ≡ text.old.items ++ flat_map (λ values. codes " " ++ values_text values) rows.now)
-        (λ _. take (length text.old.items) text.new.items ≡ text.old.items) }
+pub(crate) fn append_rows(text: &mut Vec<u8>, rows: &[ValueList]) -> Result<(), AllocError>
+    ensures { Appends result text.old.items text.new.items (items_text rows.now) }
 {
     for row in rows {
         text.extend_from_slice(b" ")?;
-        add_values(text, row.as_slice())?;
+        append_values(text, row.as_slice())?;
     }
     Ok(())
 }

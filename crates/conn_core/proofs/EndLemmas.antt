@@ -1,9 +1,9 @@
 -- How the program's lists follow the steps that end a row.
 use Rattle.std.proofs.Common.{◌≡◌, ℕ, ◌<◌, ◌≤◌, Bool, true, List, [], ◌∷◌, ◌++◌, Some, None, Err, set, get_or, sym, ap, ◌∙◌, arith, count_by, nat_lt}
-use Rattle.std.specs.Prelude.{if◌then◌else◌}
+use Rattle.std.specs.Prelude.{if◌then◌else◌, sum_by}
 use Rattle.std.proofs.lemmas.Bool.Decides.{nat_tests}
 use Rattle.std.specs.List.{find}
-use Rattle.conn_core.specs.Finds.{IsFirstAt, change_first, weight_of}
+use Rattle.conn_core.specs.Finds.{IsFirstAt, change_first}
 use Rattle.conn_core.specs.Steps.{cancel, cancel_row, cancelled, table_or, take_send, when_open, with_cancelled, with_queued, with_queued_frame}
 use Rattle.conn_core.specs.Tables.{Table, ended_row, is_queued, is_row_of, is_sent, sent_row}
 use Rattle.conn_core.specs.declared.rows.Phase.TheVariants.{Queued, Sent}
@@ -14,7 +14,7 @@ use Rattle.conn_core.specs.declared.settings.Settings.{Settings}
 use Rattle.conn_core.proofs.FirstLemmas.{weight_remove}
 
 -- one item weighs no more than all
-pub weight_found : {X : Type 0} (w : X → ℕ) (p : X → Bool) (xs : List X) (x : X) → find p xs ≡ Some x → w x ≤ weight_of w xs
+pub weight_found : {X : Type 0} (w : X → ℕ) (p : X → Bool) (xs : List X) (x : X) → find p xs ≡ Some x → w x ≤ sum_by w xs
 weight_found w p xs x h = let rest = weight_remove w p xs x h in omega arith
 
 pub cancels_queued : (t : Table) (actor id at : ℕ) (row now : Row) (frame free : List ℕ) → IsFirstAt (is_row_of actor id) t.rows at → row ≡ get_or t.rows at row → row.phase ≡ Queued frame → now ≡ ended_row cancelled row → free ≡ t.free ++ row.reference ∷ []

@@ -1,20 +1,21 @@
 -- The table after each event has room for one entry more.
-use Rattle.std.proofs.Common.{◌≡◌, ℕ, suc, ◌+◌, ◌<◌, ◌≤◌, Bool, true, false, cond, List, [], ◌∷◌, Some, None, length, refl, ap, arith, length-append, nat_lt, max}
-use Rattle.std.specs.Prelude.{◌&&◌, ◌==◌}
+use Rattle.std.proofs.Common.{◌≡◌, ℕ, suc, ◌+◌, ◌<◌, ◌≤◌, Bool, true, false, cond, List, [], ◌∷◌, Some, None, length, refl, ap, ◌∙◌, arith, length-append, nat_lt, max}
+use Rattle.std.specs.Prelude.{◌&&◌, ◌==◌, sum_by}
 use Rattle.std.specs.List.{find}
 use Rattle.std.proofs.lemmas.Bool.Decides.{nat_tests}
+use Rattle.std.proofs.lemmas.Bool.{and_parts}
+use Rattle.std.proofs.lemmas.List.Sums.{sum_by-cons, sum_by_push}
 use Rattle.wire_frames.specs.declared.ends.Outcome.{Outcome}
-use Rattle.conn_core.specs.Finds.{change_first, remove_first, weight_of}
+use Rattle.conn_core.specs.Finds.{change_first, remove_first}
 use Rattle.conn_core.specs.Rooms.{Capacities, HasTurnRoom, IsRoomy, entries_of, phase_entries, phase_references, references_kept, zero_reference, zero_row}
 use Rattle.conn_core.specs.Steps.{Request, asked, asked_if, started}
 use Rattle.conn_core.specs.Tables.{Table, at_moment, deadline_of, ended_row, is_queued, sent_row}
 use Rattle.conn_core.specs.declared.rows.Phase.TheVariants.{Queued, Ended}
 use Rattle.conn_core.specs.declared.rows.Row.{Row}
 use Rattle.conn_core.specs.declared.settings.Settings.{Settings}
-use Rattle.conn_core.proofs.FirstLemmas.{weight_change, weight_push, weight_remove}
+use Rattle.conn_core.proofs.FirstLemmas.{weight_change, weight_remove}
 use Rattle.conn_core.proofs.RoomLemmas.{entries_of_rows}
 use Rattle.conn_core.proofs.StepRoom.{closes_bound, opens}
-use Rattle.conn_core.proofs.TurnLemmas.{and_left}
 
 pub length-change_first : {X : Type 0} (p : X → Bool) (f : X → X) (xs : List X) → length (change_first p f xs) ≡ length xs
 length-change_first p f [] = refl
@@ -29,7 +30,7 @@ length-remove_first p (y ∷ ys) x h =
 asked_if_room : (s : Settings) (n : ℕ) (room : Capacities) (t : Table) (actor now : ℕ) (b : Bool) → (nat_lt (length t.held) s.share && (length t.waiting == 0)) ≡ b → t.closed ≡ None → length t.waiting < 64 → s.share ≤ 64 → HasTurnRoom n room t → IsRoomy s n room t
     → IsRoomy s (n + 1) room (asked_if b s (at_moment now t) actor).0
 asked_if_room s n room t actor now true test unclosed few share more h =
-    let fewer : nat_lt (length t.held) s.share ≡ true = and_left _ (length t.waiting == 0) test in
+    let fewer : nat_lt (length t.held) s.share ≡ true = (and_parts _ (length t.waiting == 0) test).0 in
     let below : length t.held < s.share = grind (arith, nat_tests) in
     let all = entries_of_rows t.rows in
     let one = closes_bound t in
@@ -76,10 +77,10 @@ started_room s n room t q frame reference rest unclosed free few more h =
     let all = entries_of_rows t.rows in
     let one = closes_bound t in
     let row : Row = record { id = t.requests_drawn + 1; actor = q.actor; lease = q.lease; ask = q.ask; reference = reference; deadline = deadline_of (max t.clock q.moment) q.timeout; phase = Queued frame } in
-    let entries = weight_push entries_of t.rows row in
-    let kept = weight_push references_kept t.rows row in
-    let zeros = weight_push zero_row t.rows row in
-    let none : weight_of zero_reference t.free ≡ zero_reference reference + weight_of zero_reference rest = ap (weight_of zero_reference) free in
+    let entries = sum_by_push entries_of t.rows row in
+    let kept = sum_by_push references_kept t.rows row in
+    let zeros = sum_by_push zero_row t.rows row in
+    let none : sum_by zero_reference t.free ≡ zero_reference reference + sum_by zero_reference rest = ap (sum_by zero_reference) free ∙ sum_by-cons zero_reference reference rest in
     let drawn : length t.free ≡ suc (length rest) = ap length free in
     record {
       journal = omega arith;
@@ -121,7 +122,7 @@ sent_room s n room t row frame unclosed found queued h =
     }
 
 -- a live row ends, and its reference goes to one list or the other
-pub ended_room : (s : Settings) (n m : ℕ) (room : Capacities) (t : Table) (p : Row → Bool) (row : Row) (outcome : Outcome) (free quarantined : List ℕ) → m ≤ n + 1 → find p t.rows ≡ Some row → references_kept row ≡ 1 → 2 ≤ entries_of row → length free + length quarantined ≡ length t.free + length t.quarantined + 1 → weight_of zero_reference free + weight_of zero_reference quarantined ≤ weight_of zero_reference t.free + weight_of zero_reference t.quarantined + weight_of zero_row t.rows → IsRoomy s n room t
+pub ended_room : (s : Settings) (n m : ℕ) (room : Capacities) (t : Table) (p : Row → Bool) (row : Row) (outcome : Outcome) (free quarantined : List ℕ) → m ≤ n + 1 → find p t.rows ≡ Some row → references_kept row ≡ 1 → 2 ≤ entries_of row → length free + length quarantined ≡ length t.free + length t.quarantined + 1 → sum_by zero_reference free + sum_by zero_reference quarantined ≤ sum_by zero_reference t.free + sum_by zero_reference t.quarantined + sum_by zero_row t.rows → IsRoomy s n room t
     → IsRoomy s (n + 1) room (record t { rows = change_first p (ended_row outcome) t.rows; free = free; quarantined = quarantined; frames_taken = m })
 ended_room s n m room t p row outcome free quarantined fewer found had was given clean h =
     let entries = weight_change entries_of p (ended_row outcome) t.rows row found in
@@ -144,7 +145,7 @@ ended_room s n m room t p row outcome free quarantined fewer found had was given
     }
 
 -- a frame ends nothing
-pub passed_room : (s : Settings) (n m : ℕ) (room : Capacities) (t : Table) (free quarantined : List ℕ) → m ≤ n + 1 → t.closed ≡ None → length free + length quarantined ≡ length t.free + length t.quarantined → weight_of zero_reference free + weight_of zero_reference quarantined ≤ weight_of zero_reference t.free + weight_of zero_reference t.quarantined → HasTurnRoom n room t → IsRoomy s n room t
+pub passed_room : (s : Settings) (n m : ℕ) (room : Capacities) (t : Table) (free quarantined : List ℕ) → m ≤ n + 1 → t.closed ≡ None → length free + length quarantined ≡ length t.free + length t.quarantined → sum_by zero_reference free + sum_by zero_reference quarantined ≤ sum_by zero_reference t.free + sum_by zero_reference t.quarantined → HasTurnRoom n room t → IsRoomy s n room t
     → IsRoomy s (n + 1) room (record t { free = free; quarantined = quarantined; frames_taken = m })
 passed_room s n m room t free quarantined fewer unclosed given clean more h =
     let all = entries_of_rows t.rows in

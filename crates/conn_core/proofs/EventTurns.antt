@@ -3,6 +3,7 @@ use Rattle.std.proofs.Common.{◌≡◌, ℕ, ◌<◌, ◌≤◌, Bool, true, fa
 use Rattle.std.specs.Prelude.{if◌then◌else◌}
 use Rattle.std.specs.List.{find}
 use Rattle.std.proofs.lemmas.Bool.Decides.{nat_tests}
+use Rattle.std.proofs.lemmas.List.Sums.{sum_by-append}
 use Rattle.wire_frames.specs.declared.ends.Outcome.{Outcome}
 use Rattle.wire_frames.specs.declared.ends.Reason.{Reason}
 use Rattle.conn_core.specs.Rooms.{CanTurn, Capacities, HasTurnRoom, IsRoomy, IsUnderWay, phase_entries, phase_references, zero_reference, zero_row}
@@ -17,7 +18,6 @@ use Rattle.conn_core.specs.declared.rows.Phase.TheVariants.{Queued, Sent, Ended}
 use Rattle.conn_core.specs.declared.rows.Row.{Row}
 use Rattle.conn_core.specs.declared.settings.Settings.{Settings}
 use Rattle.conn_core.proofs.EndLemmas.{weight_found}
-use Rattle.conn_core.proofs.RoomLemmas.{weight_join}
 use Rattle.conn_core.proofs.EventRoom.{asked_room, collected_room, ended_room, sent_room}
 
 -- a refusal leaves the table
@@ -70,11 +70,11 @@ cancel_turns_phase : (s : Settings) (n : ℕ) (room : Capacities) (t : Table) (a
 cancel_turns_phase s n room t actor id row (Queued frame) is found given h way =
     let had = ap phase_references is in
     let was = ap phase_entries is in
-    record { after = ended_room s n t.frames_taken room t (is_row_of actor id) row cancelled (t.free ++ row.reference ∷ []) t.quarantined (omega arith) found had (omega arith) (omega (arith, length-append t.free (row.reference ∷ []))) (let zero = weight_found zero_row (is_row_of actor id) t.rows row found in omega (arith, weight_join zero_reference t.free (row.reference ∷ []))) h; under_way = way }
+    record { after = ended_room s n t.frames_taken room t (is_row_of actor id) row cancelled (t.free ++ row.reference ∷ []) t.quarantined (omega arith) found had (omega arith) (omega (arith, length-append t.free (row.reference ∷ []))) (let zero = weight_found zero_row (is_row_of actor id) t.rows row found in omega (arith, sum_by-append zero_reference t.free (row.reference ∷ []))) h; under_way = way }
 cancel_turns_phase s n room t actor id row Sent is found given h way =
     let had = ap phase_references is in
     let was = ap phase_entries is in
-    record { after = ended_room s n t.frames_taken room t (is_row_of actor id) row cancelled t.free (t.quarantined ++ row.reference ∷ []) (omega arith) found had (omega arith) (omega (arith, length-append t.quarantined (row.reference ∷ []))) (let zero = weight_found zero_row (is_row_of actor id) t.rows row found in omega (arith, weight_join zero_reference t.quarantined (row.reference ∷ []))) h; under_way = way }
+    record { after = ended_room s n t.frames_taken room t (is_row_of actor id) row cancelled t.free (t.quarantined ++ row.reference ∷ []) (omega arith) found had (omega arith) (omega (arith, length-append t.quarantined (row.reference ∷ []))) (let zero = weight_found zero_row (is_row_of actor id) t.rows row found in omega (arith, sum_by-append zero_reference t.quarantined (row.reference ∷ []))) h; under_way = way }
 cancel_turns_phase s n room t actor id row (Ended outcome) is found given h way = cc
 
 cancel_turns_row : (s : Settings) (n : ℕ) (room : Capacities) (t : Table) (actor id : ℕ) (o : Option Row) → find (is_row_of actor id) t.rows ≡ o → Ok tt ≡ answer_of (with_cancelled t actor id o) → IsRoomy s n room t → IsUnderWay s n t

@@ -1,11 +1,12 @@
 -- The first item of a list that passes, by its place.
-use Rattle.std.proofs.Common.{◌≡◌, ℕ, zero, suc, ◌+◌, ◌<◌, ◌≤◌, Bool, true, false, cond, List, [], ◌∷◌, ◌++◌, length, set, refl, sym, ap, ◌∙◌, arith, Option, Some, None, ltb, get_or}
-use Rattle.std.specs.Prelude.{not, MatchOption}
+use Rattle.std.proofs.Common.{◌≡◌, ℕ, zero, suc, ◌+◌, ◌<◌, ◌≤◌, Bool, true, false, cond, List, [], ◌∷◌, length, set, refl, sym, ap, ◌∙◌, arith, Option, Some, None, ltb, get_or}
+use Rattle.std.specs.Prelude.{not, MatchOption, sum_by}
 use Rattle.std.specs.List.{find, position, position_or_len, slice_get, remove}
 use Rattle.std.proofs.Math.Numerals.{one-add}
 use Rattle.std.proofs.lemmas.List.Folds.{find_at}
 use Rattle.std.proofs.lemmas.Bool.Decides.{nat_tests}
-use Rattle.conn_core.specs.Finds.{IsFirstAt, change_first, remove_first, weight_of}
+use Rattle.std.proofs.lemmas.List.Sums.{sum_by-cons}
+use Rattle.conn_core.specs.Finds.{IsFirstAt, change_first, remove_first}
 
 -- past its end a list has no item
 pub past_end : {X : Type 0} (xs : List X) (i : ℕ) → length xs ≤ i → slice_get xs i ≡ None
@@ -29,25 +30,23 @@ remove_at p (y ∷ ys) =
       | false ↦ rw (one-add (position_or_len p ys)) (ap (λ zs. y ∷ zs) (remove_at p ys))
     ]
 
-pub weight_change : {X : Type 0} (w : X → ℕ) (p : X → Bool) (f : X → X) (xs : List X) (x : X) → find p xs ≡ Some x → weight_of w (change_first p f xs) + w x ≡ weight_of w xs + w (f x)
+pub weight_change : {X : Type 0} (w : X → ℕ) (p : X → Bool) (f : X → X) (xs : List X) (x : X) → find p xs ≡ Some x → sum_by w (change_first p f xs) + w x ≡ sum_by w xs + w (f x)
 weight_change w p f [] x h = cc
 weight_change w p f (y ∷ ys) x h =
-    elim (p y) as (λ b. cond b (Some y) (find p ys) ≡ Some x → weight_of w (cond b (f y ∷ ys) (y ∷ change_first p f ys)) + w x ≡ w y + weight_of w ys + w (f x)) [
-      | true ↦ λ e. let same : y ≡ x = cc in let one : w y ≡ w x = ap w same in let two : w (f y) ≡ w (f x) = ap (λ z. w (f z)) same in omega arith
-      | false ↦ λ e. let rest = weight_change w p f ys x e in omega arith
+    let all = sum_by-cons w y ys in
+    elim (p y) as (λ b. cond b (Some y) (find p ys) ≡ Some x → sum_by w (cond b (f y ∷ ys) (y ∷ change_first p f ys)) + w x ≡ sum_by w (y ∷ ys) + w (f x)) [
+      | true ↦ λ e. let same : y ≡ x = cc in let one : w y ≡ w x = ap w same in let two : w (f y) ≡ w (f x) = ap (λ z. w (f z)) same in let changed = sum_by-cons w (f y) ys in omega arith
+      | false ↦ λ e. let rest = weight_change w p f ys x e in let changed = sum_by-cons w y (change_first p f ys) in omega arith
     ] h
 
-pub weight_remove : {X : Type 0} (w : X → ℕ) (p : X → Bool) (xs : List X) (x : X) → find p xs ≡ Some x → weight_of w (remove_first p xs) + w x ≡ weight_of w xs
+pub weight_remove : {X : Type 0} (w : X → ℕ) (p : X → Bool) (xs : List X) (x : X) → find p xs ≡ Some x → sum_by w (remove_first p xs) + w x ≡ sum_by w xs
 weight_remove w p [] x h = cc
 weight_remove w p (y ∷ ys) x h =
-    elim (p y) as (λ b. cond b (Some y) (find p ys) ≡ Some x → weight_of w (cond b ys (y ∷ remove_first p ys)) + w x ≡ w y + weight_of w ys) [
+    let all = sum_by-cons w y ys in
+    elim (p y) as (λ b. cond b (Some y) (find p ys) ≡ Some x → sum_by w (cond b ys (y ∷ remove_first p ys)) + w x ≡ sum_by w (y ∷ ys)) [
       | true ↦ λ e. let same : y ≡ x = cc in let one : w y ≡ w x = ap w same in omega arith
-      | false ↦ λ e. let rest = weight_remove w p ys x e in omega arith
+      | false ↦ λ e. let rest = weight_remove w p ys x e in let left = sum_by-cons w y (remove_first p ys) in omega arith
     ] h
-
-pub weight_push : {X : Type 0} (w : X → ℕ) (xs : List X) (x : X) → weight_of w (xs ++ x ∷ []) ≡ weight_of w xs + w x
-weight_push w [] x = omega arith
-weight_push w (y ∷ ys) x = let rest = weight_push w ys x in omega arith
 
 -- the place that `position` gives is that of the first item
 place_cases : (n len : ℕ) (b : Bool) (i : ℕ) → ltb n len ≡ b → cond b (Some n) None ≡ Some i → (n ≡ i) × (i < len)

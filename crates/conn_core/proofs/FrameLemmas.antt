@@ -1,29 +1,17 @@
 -- How the program's lists follow a frame.
-use Rattle.std.proofs.Common.{◌≡◌, ℕ, ◌≤◌, Bool, true, false, cond, IsTrue, List, [], ◌∷◌, ◌++◌, Some, set, get_or, refl, sym, ap, ◌∙◌, arith}
+use Rattle.std.proofs.Common.{◌≡◌, ℕ, true, List, [], ◌∷◌, ◌++◌, Some, set, get_or, refl, sym, ap, ◌∙◌}
 use Rattle.std.specs.List.{find}
+use Rattle.std.proofs.lemmas.Bool.{and_parts}
 use Rattle.node_tree.specs.declared.readings.Reading.{Reading}
 use Rattle.wire_frames.specs.WireMeaning.{WireMeaning}
-use Rattle.wire_frames.specs.declared.asks.Ask.{Ask}
 use Rattle.wire_frames.specs.declared.ends.Outcome.{Outcome}
-use Rattle.conn_core.specs.Finds.{IsFirstAt, change_first, weight_of}
-use Rattle.conn_core.specs.Rooms.{phase_entries, phase_references, references_kept, entries_of, unasked}
+use Rattle.conn_core.specs.Finds.{IsFirstAt, change_first}
+use Rattle.conn_core.specs.Rooms.{phase_entries, phase_references, references_kept, entries_of}
 use Rattle.conn_core.specs.Steps.{arrived}
 use Rattle.conn_core.specs.Tables.{Table, ended_row, is_sent, is_sent_with, phase_sent}
 use Rattle.conn_core.specs.declared.rows.Phase.{Phase}
 use Rattle.conn_core.specs.declared.rows.Phase.TheVariants.{Queued, Sent, Ended}
 use Rattle.conn_core.specs.declared.rows.Row.{Row}
-use Rattle.conn_core.proofs.EndLemmas.{weight_found}
-use Rattle.conn_core.proofs.TurnLemmas.{and_right}
-
-admitted_if : (b : Bool) → cond b 0 1 ≤ 0 → IsTrue b
-admitted_if true h = refl
-admitted_if false h = absurd (omega arith)
-
--- where no row's ask is left out, the wire carries each row's ask
-pub asks_row : (p : Ask → Bool) (q : Row → Bool) (rows : List Row) (row : Row) → weight_of (unasked p) rows ≡ 0 → find q rows ≡ Some row → IsTrue (p row.ask)
-asks_row p q rows row none found =
-    let one : unasked p row ≤ weight_of (unasked p) rows = weight_found (unasked p) q rows row found in
-    let zero : unasked p row ≤ 0 = omega arith in admitted_if (p row.ask) zero
 
 phase_keeps : (phase : Phase) → phase_sent phase ≡ true → phase_references phase ≡ 1
 phase_keeps (Queued frame) h = refl
@@ -37,10 +25,10 @@ phase_causes (Ended outcome) h = cc
 
 -- a row that was sent keeps its reference, and can end and be collected
 pub sent_keeps : (reference : ℕ) (row : Row) → is_sent_with reference row ≡ true → references_kept row ≡ 1
-sent_keeps reference row h = phase_keeps row.phase (and_right _ (is_sent row) h)
+sent_keeps reference row h = phase_keeps row.phase ((and_parts _ (is_sent row) h).1)
 
 pub sent_causes : (reference : ℕ) (row : Row) → is_sent_with reference row ≡ true → entries_of row ≡ 2
-sent_causes reference row h = phase_causes row.phase (and_right _ (is_sent row) h)
+sent_causes reference row h = phase_causes row.phase ((and_parts _ (is_sent row) h).1)
 
 pub arrives : (wire : WireMeaning) (t : Table) (reference at : ℕ) (reading : Reading) (row now : Row) (outcome : Outcome) (free : List ℕ) → IsFirstAt (is_sent_with reference) t.rows at → row ≡ get_or t.rows at row → outcome ≡ wire.fit row.ask reading → now ≡ ended_row outcome row → free ≡ t.free ++ reference ∷ []
     → record t { rows = set t.rows at now; free = free } ≡ (arrived wire t reference reading (find (is_sent_with reference) t.rows)).0

@@ -2,6 +2,8 @@
 use Rattle.std.proofs.Common.{◌≡◌, ℕ, ◌+◌, ◌<◌, Bool, true, List, [], ◌∷◌, ◌++◌, Option, Some, None, Result, Ok, Err, refl, ap, ◌∙◌, arith, length-append}
 use Rattle.std.specs.List.{find}
 use Rattle.std.proofs.lemmas.Bool.Decides.{nat_tests}
+use Rattle.std.proofs.lemmas.Bool.{and_parts}
+use Rattle.std.proofs.lemmas.List.Sums.{sum_by-append}
 use Rattle.node_tree.specs.declared.readings.Reading.{Reading}
 use Rattle.wire_frames.specs.WireMeaning.{WireMeaning}
 use Rattle.wire_frames.specs.declared.ends.FrameWhy.{FrameWhy}
@@ -18,9 +20,8 @@ use Rattle.conn_core.proofs.EventRoom.{ended_room, length-remove_first, passed_r
 use Rattle.conn_core.proofs.EventTurns.{when_open_ok}
 use Rattle.conn_core.proofs.FirstLemmas.{found_passes, weight_remove}
 use Rattle.conn_core.proofs.FrameLemmas.{sent_causes, sent_keeps}
-use Rattle.conn_core.proofs.RoomLemmas.{entries_of_rows, weight_join}
+use Rattle.conn_core.proofs.RoomLemmas.{entries_of_rows}
 use Rattle.conn_core.proofs.StepRoom.{closed_room, opens}
-use Rattle.conn_core.proofs.TurnLemmas.{and_left}
 
 reference_is : (reference r : ℕ) (b : Bool) → is_reference reference r ≡ b → b ≡ true → r ≡ reference
 reference_is reference r b is h = let same : is_reference reference r ≡ true = is ∙ h in grind (arith, nat_tests)
@@ -34,7 +35,7 @@ late_turns s n room t reference (Some r) found unclosed more h way =
     let left = weight_remove zero_reference (is_reference reference) t.quarantined r found in
     let same : r ≡ reference = reference_is reference r _ refl (found_passes (is_reference reference) t.quarantined r found) in
     let zero : zero_reference r ≡ zero_reference reference = ap zero_reference same in
-    record { after = passed_room s n (t.frames_taken + 1) room t (t.free ++ reference ∷ []) _ (omega arith) unclosed (omega (arith, length-append t.free (reference ∷ []))) (omega (arith, weight_join zero_reference t.free (reference ∷ []))) more h; under_way = way }
+    record { after = passed_room s n (t.frames_taken + 1) room t (t.free ++ reference ∷ []) _ (omega arith) unclosed (omega (arith, length-append t.free (reference ∷ []))) (omega (arith, sum_by-append zero_reference t.free (reference ∷ []))) more h; under_way = way }
 
 arrived_turns : (wire : WireMeaning) (s : Settings) (n : ℕ) (room : Capacities) (t : Table) (reference : ℕ) (reading : Reading) (o : Option Row) → find (is_sent_with reference) t.rows ≡ o → t.closed ≡ None → HasTurnRoom n room t → IsRoomy s n room t → IsUnderWay s n t
     → CanTurn s n room (counted (arrived wire t reference reading o)).0
@@ -44,9 +45,9 @@ arrived_turns wire s n room t reference reading (Some row) found unclosed more h
     let kept = sent_keeps reference row passes in
     let causes = sent_causes reference row passes in
     let zero = weight_found zero_row (is_sent_with reference) t.rows row found in
-    let same : row.reference ≡ reference = reference_is reference row.reference _ refl (and_left (is_reference reference row.reference) _ passes) in
+    let same : row.reference ≡ reference = reference_is reference row.reference _ refl ((and_parts (is_reference reference row.reference) _ passes).0) in
     let zeros : zero_row row ≡ zero_reference reference = ap zero_reference same in
-    record { after = ended_room s n (t.frames_taken + 1) room t (is_sent_with reference) row (wire.fit row.ask reading) (t.free ++ reference ∷ []) t.quarantined (omega arith) found kept (omega arith) (omega (arith, length-append t.free (reference ∷ []))) (omega (arith, weight_join zero_reference t.free (reference ∷ []))) h; under_way = way }
+    record { after = ended_room s n (t.frames_taken + 1) room t (is_sent_with reference) row (wire.fit row.ask reading) (t.free ++ reference ∷ []) t.quarantined (omega arith) found kept (omega arith) (omega (arith, length-append t.free (reference ∷ []))) (omega (arith, sum_by-append zero_reference t.free (reference ∷ []))) h; under_way = way }
 
 -- a table that was closed by a frame stays so
 refused_turns : (s : Settings) (n : ℕ) (room : Capacities) (t : Table) (why : FrameWhy) → t.closed ≡ None → HasTurnRoom n room t → IsRoomy s n room t → IsUnderWay s n t

@@ -1,7 +1,7 @@
 -- A list whose first items are changed.
 use Rattle.std.proofs.Common.{◌≡◌, ℕ, zero, suc, ◌+◌, ◌<◌, Bool, true, false, cond, List, [], ◌∷◌, ◌++◌, length, take, drop, set, get_or, refl, sym, ap, ◌∙◌, append_assoc, arith}
-use Rattle.std.specs.Prelude.{map}
-use Rattle.conn_core.specs.Finds.{weight_of}
+use Rattle.std.specs.Prelude.{map, sum_by}
+use Rattle.std.proofs.lemmas.List.Sums.{sum_by-drop_more}
 use Rattle.conn_core.specs.Tables.{references_of}
 use Rattle.conn_core.specs.declared.rows.Row.{Row}
 
@@ -30,10 +30,8 @@ one_more_changed f i [] x h e = absurd (omega arith)
 one_more_changed f zero (y ∷ ys) x h e = ap (λ z. f z ∷ ys) (sym e)
 one_more_changed f (suc i) (y ∷ ys) x h e = ap (λ zs. f y ∷ zs) (one_more_changed f i ys x (omega arith) e)
 
-pub weight_left : {X : Type 0} (w : X → ℕ) (i : ℕ) (xs : List X) (x : X) → i < length xs → get_or xs i x ≡ x → weight_of w (drop i xs) ≡ w x + weight_of w (drop (suc i) xs)
-weight_left w i [] x h e = absurd (omega arith)
-weight_left w zero (y ∷ ys) x h e = ap (λ z. w z + weight_of w ys) e
-weight_left w (suc i) (y ∷ ys) x h e = weight_left w i ys x (omega arith) e
+pub weight_left : {X : Type 0} (w : X → ℕ) (i : ℕ) (xs : List X) (x : X) → i < length xs → get_or xs i x ≡ x → sum_by w (drop i xs) ≡ w x + sum_by w (drop (i + 1) xs)
+weight_left w i xs x h e = sum_by-drop_more w xs i x h ∙ ap (λ z. w z + sum_by w (drop (i + 1) xs)) e
 
 pub references_more : (p : Row → Bool) (i : ℕ) (rows : List Row) (row : Row) → i < length rows → get_or rows i row ≡ row → references_of p (take (suc i) rows) ≡ references_of p (take i rows) ++ references_of p (row ∷ [])
 references_more p i [] row h e = absurd (omega arith)

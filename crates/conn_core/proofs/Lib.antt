@@ -1,5 +1,4 @@
-pub mod AskLemmas
-pub mod ClosedCauses
+pub mod CauseLemmas
 pub mod EndLemmas
 pub mod EventRoom
 pub mod EventTurns
@@ -11,7 +10,9 @@ pub mod FrontLemmas
 pub mod KeptLemmas
 pub mod OpeningLemmas
 pub mod PlaceLemmas
+pub mod RefusalLemmas
 pub mod RoomLemmas
+pub mod SoundLemmas
 pub mod StateLemmas
 pub mod StepRoom
 pub mod SubmitTurns

@@ -1,9 +1,10 @@
 -- The opening table.
 use Rattle.std.proofs.Common.{◌≡◌, ℕ, zero, suc, ◌+◌, ◌<◌, ◌≤◌, ◌==◌, false, cond, List, [], ◌∷◌, ◌++◌, None, length, refl, sym, ap, ◌∙◌, arith, vec_len}
+use Rattle.std.specs.Prelude.{sum_by}
 use Rattle.std.specs.List.{range_with_len}
 use Rattle.std.proofs.lemmas.Bool.Decides.{nat_tests}
 use Rattle.std.proofs.lemmas.List.FromFn.{length-range_with_len}
-use Rattle.conn_core.specs.Finds.{weight_of}
+use Rattle.std.proofs.lemmas.List.Sums.{sum_by-cons}
 use Rattle.conn_core.specs.Rooms.{Capacities, IsKept, IsRoomy, IsUnderWay, capacities_of, lists_of, zero_reference}
 use Rattle.conn_core.specs.Tables.{IsSettings, Table, opening}
 use Rattle.conn_core.specs.declared.kept.Kept.{Kept}
@@ -20,9 +21,9 @@ above_zero : (n : ℕ) → 0 < n → zero_reference n ≡ 0
 above_zero zero h = absurd (omega arith)
 above_zero (suc n) h = let other : (suc n == 0) ≡ false = grind (arith, nat_tests) in ap (λ b. cond b 1 0) other
 
-range_zeros : (a n : ℕ) → 0 < a → weight_of zero_reference (range_with_len a n) ≡ 0
+range_zeros : (a n : ℕ) → 0 < a → sum_by zero_reference (range_with_len a n) ≡ 0
 range_zeros a zero h = refl
-range_zeros a (suc n) h = let one = above_zero a h in let rest = range_zeros (a + 1) n (omega arith) in omega arith
+range_zeros a (suc n) h = let one = above_zero a h in let rest = range_zeros (a + 1) n (omega arith) in let all = sum_by-cons zero_reference a (range_with_len (a + 1) n) in omega arith
 
 opening_room : (s : Settings) (room : Capacities) → IsSettings s → 1 ≤ room.journal → s.references ≤ room.free → s.references ≤ room.quarantined → IsRoomy s 0 room (opening s)
 opening_room s room settings a b c =

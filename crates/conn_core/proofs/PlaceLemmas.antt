@@ -1,15 +1,18 @@
 -- A journal with one entry more, by its places.
-use Rattle.std.proofs.Common.{◌≡◌, ◌⊎◌, inl, inr, ℕ, zero, suc, List, [], ◌∷◌, ◌++◌, Option, Some, None, length, refl, sym, ap, ◌∙◌}
+use Rattle.std.proofs.Common.{◌≡◌, ◌⊎◌, inl, inr, ℕ, zero, suc, ◌+◌, Bool, true, false, cond, arith, count_by, List, [], ◌∷◌, ◌++◌, Option, Some, None, length, refl, sym, ap, subst, append_assoc, ◌∙◌}
 use Rattle.std.specs.Prelude.{◌↔◌}
 use Rattle.std.specs.List.{slice_get}
+use Rattle.std.proofs.lemmas.List.Sums.{sum_by_push}
+use Rattle.wire_frames.specs.WireMeaning.{WireMeaning}
 use Rattle.wire_frames.specs.declared.ends.Reason.{Reason}
-use Rattle.conn_core.specs.Entries.{clock_by, clock_from, clock_of, closing_reason}
+use Rattle.conn_core.specs.Entries.{clock_by, clock_from, clock_of, closing_reason, frames_in, is_frame, is_submit, requests_in}
+use Rattle.conn_core.specs.Journals.{AreAdmitted, IsAdmitted, turn_if, worn_entry}
 use Rattle.conn_core.specs.LeaseLists.{LeaseLists, leases_after, leases_from, no_leases}
 use Rattle.conn_core.specs.TableLaw.{ClosesWith, leases_in}
 use Rattle.conn_core.specs.Tables.{Table}
 use Rattle.conn_core.specs.declared.entries.Entry.{Entry}
 use Rattle.conn_core.specs.declared.settings.Settings.{Settings}
-use Rattle.conn_core.proofs.FollowLemmas.{Follows, closed_after}
+use Rattle.conn_core.proofs.FollowLemmas.{Follows, closed_after, counts_if}
 
 clock_more : (clock : ℕ) (xs : List Entry) (e : Entry) → clock_from clock (xs ++ e ∷ []) ≡ clock_by (clock_from clock xs) e.event
 clock_more clock [] e = refl
@@ -48,11 +51,22 @@ closes_cases xs e reason closes =
       | inr last ↦ inr (ap (λ (x : Entry). closing_reason x) last ∙ closes.3)
     ]
 
--- a table's clock, leases and close are those of a journal's places
+counted_if : (b : Bool) (n m k : ℕ) → m ≡ counts_if b n → k ≡ n + cond b 1 0 → m ≡ k
+counted_if true n m k is all = omega arith
+counted_if false n m k is all = omega arith
+
+-- an entry more counts one more, or none
+count_more : (p : Entry → Bool) (xs : List Entry) (e : Entry) (n m : ℕ) → n ≡ count_by p xs → m ≡ counts_if (p e) n → m ≡ count_by p (xs ++ e ∷ [])
+count_more p xs e n m before is =
+    counted_if (p e) (count_by p xs) m (count_by p (xs ++ e ∷ [])) (is ∙ ap (counts_if (p e)) before) (sum_by_push (λ x. cond (p x) 1 0) xs e)
+
+-- a table's clock, leases, close and counts are those of a journal's places
 pub record IsAfter (s : Settings) (journal : List Entry) (t : Table) : Type 0 where
   pub clock : t.clock ≡ clock_of journal
   pub leases : leases_in t ≡ leases_from s no_leases journal
   pub closed : (reason : Reason) → (t.closed ≡ Some reason) ↔ ClosesWith journal reason
+  pub frames : t.frames_taken ≡ frames_in journal
+  pub requests : t.requests_drawn ≡ requests_in journal
 
 closed_then : (journal : List Entry) (e : Entry) (was now : Option Reason) (reason : Reason) (o : Option Reason) → closing_reason e ≡ o → now ≡ closed_after o was → (was ≡ Some reason → ClosesWith journal reason) → now ≡ Some reason → ClosesWith (journal ++ e ∷ []) reason
 closed_then journal e was now reason None is after before h = closes_before journal e reason (before (sym after ∙ h))
@@ -79,4 +93,20 @@ one_more s journal t e u after follows =
           | inr last ↦ closed_by_last e t.closed u.closed reason follows.closed last
         ],
       );
+      frames = count_more (λ x. is_frame x.event) journal e t.frames_taken u.frames_taken after.frames follows.frames;
+      requests = count_more (λ x. is_submit x.event) journal e t.requests_drawn u.requests_drawn after.requests follows.requests;
     }
+
+-- a request more that may be handed in
+pub admitted_more : (wire : WireMeaning) (journal : List Entry) (e : Entry) → AreAdmitted wire journal → IsAdmitted wire e.event → AreAdmitted wire (journal ++ e ∷ [])
+admitted_more wire journal e before last = λ k x stands.
+    elim (stands_cases journal e k x stands) [
+      | inl stood ↦ before k x stood
+      | inr same ↦ subst (λ (y : Entry). IsAdmitted wire y.event) same last
+    ]
+
+-- a turn more; the close by a full journal is no request
+pub admitted_turn : (wire : WireMeaning) (journal : List Entry) (e : Entry) (b : Bool) → AreAdmitted wire journal → IsAdmitted wire e.event → AreAdmitted wire (journal ++ turn_if b e)
+admitted_turn wire journal e false before last = admitted_more wire journal e before last
+admitted_turn wire journal e true before last =
+    subst (AreAdmitted wire) (append_assoc journal (e ∷ []) (worn_entry e.actor ∷ [])) (admitted_more wire (journal ++ e ∷ []) (worn_entry e.actor) (admitted_more wire journal e before last) tt)

@@ -1,15 +1,16 @@
 -- A turn that was written down leads from one state to the next.
-use Rattle.std.proofs.Common.{◌≡◌, ◌⊎◌, inl, inr, ℕ, ◌+◌, ◌≤◌, Bool, true, false, List, [], ◌∷◌, ◌++◌, Option, Some, None, Result, Ok, Err, length, refl, sym, ap, ◌∙◌, subst, arith}
+use Rattle.std.proofs.Common.{◌≡◌, ◌⊎◌, inl, inr, ℕ, ◌+◌, Bool, true, false, List, [], ◌∷◌, ◌++◌, Option, Some, None, Result, Ok, Err, length, refl, sym, ap, ◌∙◌, subst}
 use Rattle.std.specs.Prelude.{IfOk, OnErr, OnOk}
-use Rattle.wire_frames.specs.declared.asks.Ask.{Ask}
+use Rattle.std.proofs.lemmas.List.Elements.{All-nil}
+use Rattle.wire_frames.specs.WireMeaning.{WireMeaning}
 use Rattle.wire_frames.specs.declared.ends.Reason.{Reason}
 use Rattle.wire_frames.specs.declared.ends.Reason.TheVariants as reasons
-use Rattle.conn_core.specs.Finds.{weight_of}
-use Rattle.conn_core.specs.Journals.{Legal, opened, turned, after_entries, after_entry, after_step, is_worn, settled, settled_if, table_of, turn_if, turn_of, wears, worn_entry}
-use Rattle.conn_core.specs.Rooms.{IsKept, Stays, Turns, TurnsAs, lists_of, unasked}
+use Rattle.conn_core.specs.Journals.{AreAdmitted, IsAdmitted, Legal, opened, turned, after_entries, after_entry, after_step, is_worn, settled, settled_if, table_of, turn_if, turn_of, wears, worn_entry}
+use Rattle.conn_core.specs.Rooms.{IsKept, Stays, Turns, TurnsAs, lists_of}
 use Rattle.conn_core.specs.KeptStates.{IsState}
-use Rattle.conn_core.specs.States.{Grows, grown}
-use Rattle.conn_core.specs.Steps.{IsGiven, Started, accepted_of, answer_of, closed_by, started_answer, step, table_or, taken, when_open}
+use Rattle.conn_core.specs.SoundRows.{IsSoundRow}
+use Rattle.conn_core.specs.States.{GoesOn, Grows, Key, State, connection_of, grown}
+use Rattle.conn_core.specs.Steps.{IsGivenOrNoMemory, Started, accepted_of, answer_of, closed_by, started_answer, step, table_or, taken, when_open}
 use Rattle.conn_core.specs.Tables.{IsSettings, Connection, Table, is_open, opening}
 use Rattle.conn_core.specs.declared.answers.Accepted.{Accepted}
 use Rattle.conn_core.specs.declared.answers.SubmitRefusal.{SubmitRefusal}
@@ -20,8 +21,10 @@ use Rattle.conn_core.specs.declared.entries.Entry.{Entry}
 use Rattle.conn_core.specs.declared.entries.Event.{Event}
 use Rattle.conn_core.specs.declared.kept.Kept.{Kept}
 use Rattle.conn_core.specs.declared.settings.Settings.{Settings}
-use Rattle.conn_core.proofs.RoomLemmas.{lost_asks}
-use Rattle.conn_core.proofs.SubmitTurns.{given_ok}
+use Rattle.conn_core.proofs.KeptLemmas.{kept_short}
+use Rattle.conn_core.proofs.PlaceLemmas.{admitted_turn}
+use Rattle.conn_core.proofs.SoundLemmas.{AreSound, RepliesFit, closed_sound, step_sound}
+use Rattle.conn_core.proofs.RefusalLemmas.{given_ok}
 use Rattle.conn_core.proofs.TurnLemmas.{open_where_worn}
 
 after_more : (c : Connection) (t : Table) (xs ys : List Entry) → after_entries c t (xs ++ ys) ≡ after_entries c (after_entries c t xs) ys
@@ -54,60 +57,56 @@ pub turn_table : (c : Connection) (journal : List Entry) (n : ℕ) (u : Table) (
 turn_table c journal n u e taken =
     table_of-append c journal (turn_of c.settings n u e) ∙ turn_if_table c n (table_of c journal) u e (wears c.settings n u) refl taken
 
-settled_asks : (p : Ask → Bool) (b : Bool) (t : Table) → weight_of (unasked p) (settled_if b t).rows ≡ weight_of (unasked p) t.rows
-settled_asks p true t = lost_asks p reasons.Worn t.rows
-settled_asks p false t = refl
+settled_sound : (wire : WireMeaning) (b : Bool) (t : Table) → AreSound wire t → AreSound wire (settled_if b t)
+settled_sound wire true t sound = closed_sound wire reasons.Worn t sound
+settled_sound wire false t sound = sound
 
 -- a state goes on to the state after a taken event
-pub turned_state : {A E : Type 0} (c : Connection) (k m : Kept) (actor : ℕ) (event : Event) (w : Result (Table × A) E) (f : A → Answer) → IsState c k → is_worn event ≡ false → step c (lists_of k.table) actor event ≡ taken f w
-    → weight_of (unasked c.wire.admits) (table_or (lists_of k.table) w).rows ≤ 0
+turned_state : {A E : Type 0} (c : Connection) (k m : Kept) (actor : ℕ) (event : Event) (w : Result (Table × A) E) (f : A → Answer) → RepliesFit c.wire → IsState c k → is_worn event ≡ false → IsAdmitted c.wire event → step c (lists_of k.table) actor event ≡ taken f w
     → TurnsAs c.settings k.journal.items w (λ a. record { actor = actor; event = event; answer = f a }) m.journal.items (lists_of m.table) → IsKept c.settings m → IsState c m
-turned_state c k m actor event (Err e) f state plain steps asks turns kept = absurd turns
-turned_state c k m actor event (Ok p) f state plain steps asks turns kept =
+turned_state c k m actor event (Err e) f fits state plain admitted steps turns kept = absurd turns
+turned_state c k m actor event (Ok p) f fits state plain admitted steps turns kept =
     let e : Entry = record { actor = actor; event = event; answer = f p.1 } in
     let old = k.journal.items in
     let n = length old + 1 in
     let done : step c (table_of c old) actor event ≡ Some (p.0, f p.1) = ap (λ t. step c t actor event) state.table ∙ steps in
-    let same = settled_asks c.wire.admits (wears c.settings n p.0) p.0 in
-    let rows : weight_of (unasked c.wire.admits) m.table.rows.items ≡ weight_of (unasked c.wire.admits) (settled c.settings n p.0).rows = ap (λ t. weight_of (unasked c.wire.admits) t.rows) turns.table in
+    let sound : AreSound c.wire p.0 = step_sound c (lists_of k.table) actor event p.0 (f p.1) fits admitted state.rows steps in
     record {
       settings = state.settings;
       room = kept;
       legal = subst (Legal c) (sym turns.journal) (turned old e p.0 state.legal plain done);
       table = ap (table_of c) turns.journal ∙ turn_table c old n p.0 e done ∙ sym turns.table;
-      asks = omega arith;
+      rows = subst (AreSound c.wire) (sym turns.table) (settled_sound c.wire (wears c.settings n p.0) p.0 sound);
+      admitted = subst (AreAdmitted c.wire) (sym turns.journal) (admitted_turn c.wire old e (wears c.settings n p.0) state.admitted admitted);
     }
 
-pub stayed_state : (c : Connection) (k m : Kept) → IsState c k → Stays k.journal.items (lists_of k.table) m.journal.items (lists_of m.table) → IsKept c.settings m → IsState c m
+stayed_state : (c : Connection) (k m : Kept) → IsState c k → Stays k.journal.items (lists_of k.table) m.journal.items (lists_of m.table) → IsKept c.settings m → IsState c m
 stayed_state c k m state stays kept =
     record {
       settings = state.settings;
       room = kept;
       legal = subst (Legal c) (sym stays.journal) state.legal;
       table = ap (table_of c) stays.journal ∙ state.table ∙ sym stays.table;
-      asks = ap (λ t. weight_of (unasked c.wire.admits) t.rows) stays.table ∙ state.asks;
+      rows = subst (AreSound c.wire) (sym stays.table) state.rows;
+      admitted = subst (AreAdmitted c.wire) (sym stays.journal) state.admitted;
     }
 
 turns_as : {A E : Type 0} (s : Settings) (old : List Entry) (t : Table) (w : Result (Table × A) E) (entry : A → Entry) (a : A) (new : List Entry) (u : Table) → Ok a ≡ answer_of w → Turns s old (table_or t w) (entry a) new u → TurnsAs s old w entry new u
 turns_as s old t (Ok p) entry a new u given turns = let same : a ≡ p.1 = cc in subst (λ b. Turns s old p.0 (entry b) new u) same turns
 turns_as s old t (Err e) entry a new u given turns = absurd (cc)
 
--- what a call that answers by its step alone leaves
-pub called_state : {A E : Type 0} (c : Connection) (k m : Kept) (actor : ℕ) (event : Event) (w : Result (Table × A) E) (f : A → Answer) (no_memory : E) (result : Result A E) → IsState c k → is_worn event ≡ false → step c (lists_of k.table) actor event ≡ taken f w
-    → weight_of (unasked c.wire.admits) (table_or (lists_of k.table) w).rows ≤ 0 → IsGiven no_memory result (answer_of w)
-    → IfOk result (λ a. Turns c.settings k.journal.items (table_or (lists_of k.table) w) (record { actor = actor; event = event; answer = f a }) m.journal.items (lists_of m.table))
-    → OnErr result (Stays k.journal.items (lists_of k.table) m.journal.items (lists_of m.table)) → IsKept c.settings m → IsState c m
-called_state c k m actor event w f no_memory (Ok a) state plain steps asks given turns stays kept =
-    turned_state c k m actor event w f state plain steps asks (turns_as c.settings k.journal.items (lists_of k.table) w (λ b. record { actor = actor; event = event; answer = f b }) a m.journal.items (lists_of m.table) (given_ok no_memory a (answer_of w) given) turns) kept
-called_state c k m actor event w f no_memory (Err e) state plain steps asks given turns stays kept = stayed_state c k m state stays kept
+-- a call that answers by its step alone wrote the step down
+pub called_turns : {A E : Type 0} (s : Settings) (old : List Entry) (t : Table) (w : Result (Table × A) E) (entry : A → Entry) (no_memory : E) (result : Result A E) (new : List Entry) (u : Table) → IsGivenOrNoMemory no_memory result (answer_of w)
+    → IfOk result (λ a. Turns s old (table_or t w) (entry a) new u) → OnOk result (TurnsAs s old w entry new u)
+called_turns s old t w entry no_memory (Ok a) new u given turns = turns_as s old t w entry a new u (given_ok no_memory a (answer_of w) given) turns
+called_turns s old t w entry no_memory (Err e) new u given turns = tt
 
--- the same where a call answers otherwise than its step
-pub handed_state : {A B D E : Type 0} (c : Connection) (k m : Kept) (actor : ℕ) (event : Event) (w : Result (Table × A) E) (f : A → Answer) (result : Result B D) → IsState c k → is_worn event ≡ false → step c (lists_of k.table) actor event ≡ taken f w
-    → weight_of (unasked c.wire.admits) (table_or (lists_of k.table) w).rows ≤ 0
+-- a call leads to a state again
+pub leads : {A B D E : Type 0} (c : Connection) (k m : Kept) (actor : ℕ) (event : Event) (w : Result (Table × A) E) (f : A → Answer) (result : Result B D) → RepliesFit c.wire → IsState c k → is_worn event ≡ false → IsAdmitted c.wire event → step c (lists_of k.table) actor event ≡ taken f w
     → OnOk result (TurnsAs c.settings k.journal.items w (λ a. record { actor = actor; event = event; answer = f a }) m.journal.items (lists_of m.table))
     → OnErr result (Stays k.journal.items (lists_of k.table) m.journal.items (lists_of m.table)) → IsKept c.settings m → IsState c m
-handed_state c k m actor event w f (Ok b) state plain steps asks turns stays kept = turned_state c k m actor event w f state plain steps asks turns kept
-handed_state c k m actor event w f (Err e) state plain steps asks turns stays kept = stayed_state c k m state stays kept
+leads c k m actor event w f (Ok b) fits state plain admitted steps turns stays kept = turned_state c k m actor event w f fits state plain admitted steps turns kept
+leads c k m actor event w f (Err e) fits state plain admitted steps turns stays kept = stayed_state c k m state stays kept
 
 -- the journal of a call that answers otherwise than its step
 pub handed_journal : {A B D E : Type 0} (c : Connection) (k m : Kept) (actor : ℕ) (event : Event) (w : Result (Table × A) E) (f : A → Answer) (result : Result B D) → IsState c k → step c (lists_of k.table) actor event ≡ taken f w
@@ -122,13 +121,26 @@ grows_if : (actor : ℕ) (old new : List Entry) (e : Entry) (b : Bool) → e.act
 grows_if actor old new e true same is = inr (inr (e, same, is ∙ ap (λ a. old ++ e ∷ worn_entry a ∷ []) same))
 grows_if actor old new e false same is = inr (inl (e, same, is))
 
-pub handed_grows : {A B D E : Type 0} (s : Settings) (k m : Kept) (actor : ℕ) (event : Event) (w : Result (Table × A) E) (f : A → Answer) (result : Result B D)
+handed_grows : {A B D E : Type 0} (s : Settings) (k m : Kept) (actor : ℕ) (event : Event) (w : Result (Table × A) E) (f : A → Answer) (result : Result B D)
     → OnOk result (TurnsAs s k.journal.items w (λ a. record { actor = actor; event = event; answer = f a }) m.journal.items (lists_of m.table))
     → OnErr result (Stays k.journal.items (lists_of k.table) m.journal.items (lists_of m.table)) → Grows actor k.journal.items m.journal.items
 handed_grows s k m actor event (Ok p) f (Ok b) turns stays =
     grows_if actor k.journal.items m.journal.items (record { actor = actor; event = event; answer = f p.1 }) (wears s (length k.journal.items + 1) p.0) refl turns.journal
 handed_grows s k m actor event (Err e) f (Ok b) turns stays = absurd turns
 handed_grows s k m actor event w f (Err e) turns stays = inl stays.journal
+
+-- the state goes on to it
+pub goes_on : {W A B D E : Type 0} (meaning : W → WireMeaning) (key : Key W) (k m : Kept) {old : State W} (actor : ℕ) (event : Event) (w : Result (Table × A) E) (f : A → Answer) (result : Result B D) → record { key = key; journal = k.journal.items } ≡ old → IsState (connection_of meaning key) m
+    → OnOk result (TurnsAs key.settings k.journal.items w (λ a. record { actor = actor; event = event; answer = f a }) m.journal.items (lists_of m.table))
+    → OnErr result (Stays k.journal.items (lists_of k.table) m.journal.items (lists_of m.table)) → GoesOn meaning actor old (record { key = key; journal = m.journal.items })
+goes_on meaning key k m actor event w f result is state turns stays =
+    let new : State _ = record { key = key; journal = m.journal.items } in
+    subst (λ v. GoesOn meaning actor v new) is (record {
+      key = refl;
+      grows = handed_grows key.settings k m actor event w f result turns stays;
+      legal = state.legal;
+      short = kept_short key.settings m state.settings state.room;
+    })
 
 -- a connection to which nothing happened
 pub opened_state : (c : Connection) (k : Kept) → IsSettings c.settings → IsKept c.settings k → k.journal.items ≡ [] → lists_of k.table ≡ opening c.settings → IsState c k
@@ -139,7 +151,8 @@ opened_state c k settings kept empty begins =
       room = kept;
       legal = subst (Legal c) (sym empty) opened;
       table = ap (table_of c) empty ∙ sym begins;
-      asks = ap (λ t. weight_of (unasked c.wire.admits) t.rows) begins;
+      rows = subst (AreSound c.wire) (sym begins) (All-nil (IsSoundRow c.wire));
+      admitted = subst (AreAdmitted c.wire) (sym empty) (λ k e stands. absurd (cc));
     }
 
 refused_submit : (c : Connection) (journal : List Entry) (actor : ℕ) (event : Event) (w : Result (Table × Started) SubmitRefusal) (e : SubmitRefusal) (o : Option (Table × Answer)) → o ≡ taken started_answer w → Err e ≡ accepted_of (answer_of w) → grown c journal actor event o ≡ journal
@@ -148,7 +161,7 @@ refused_submit c journal actor event (Err f) e o steps given = ap (grown c journ
 
 -- the journal after a request that was handed in
 pub submitted_after : (c : Connection) (k m : Kept) (actor : ℕ) (event : Event) (w : Result (Table × Started) SubmitRefusal) (result : Result Accepted SubmitRefusal) → IsState c k → step c (lists_of k.table) actor event ≡ taken started_answer w
-    → IsGiven submits.NoMemory result (accepted_of (answer_of w))
+    → IsGivenOrNoMemory submits.NoMemory result (accepted_of (answer_of w))
     → OnOk result (TurnsAs c.settings k.journal.items w (λ a. record { actor = actor; event = event; answer = started_answer a }) m.journal.items (lists_of m.table))
     → OnErr result (Stays k.journal.items (lists_of k.table) m.journal.items (lists_of m.table))
     → (result ≡ Err submits.NoMemory) ⊎ (m.journal.items ≡ grown c k.journal.items actor event (step c (table_of c k.journal.items) actor event))

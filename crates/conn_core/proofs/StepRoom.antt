@@ -1,18 +1,19 @@
 -- Each step leaves the room that it found, and so does the turn that writes it down.
 use Rattle.std.proofs.Common.{◌≡◌, ◌≢◌, ℕ, ◌+◌, ◌≤◌, Bool, true, false, cond, None, length, refl, ap, ◌∙◌, arith, length-append}
-use Rattle.std.specs.Prelude.{◌&&◌, ◌==◌}
+use Rattle.std.specs.Prelude.{◌&&◌, ◌==◌, sum_by}
 use Rattle.std.proofs.lemmas.Bool.Decides.{nat_tests}
+use Rattle.std.proofs.lemmas.Bool.{and_parts}
+use Rattle.std.proofs.lemmas.List.Sums.{sum_by-append}
 use Rattle.wire_frames.specs.declared.ends.Reason.{Reason}
 use Rattle.wire_frames.specs.declared.ends.Reason.TheVariants as reasons
-use Rattle.conn_core.specs.Finds.{weight_of}
 use Rattle.conn_core.specs.Journals.{settled_if, turn_if, turn_of, settled, wears}
 use Rattle.conn_core.specs.Rooms.{Capacities, IsRoomy, IsUnderWay, closes_of, entries_of, zero_reference}
 use Rattle.conn_core.specs.Steps.{closed_by}
 use Rattle.conn_core.specs.Tables.{Table, is_open, is_queued, is_sent, lost_row, references_of}
 use Rattle.conn_core.specs.declared.entries.Entry.{Entry}
 use Rattle.conn_core.specs.declared.settings.Settings.{Settings}
-use Rattle.conn_core.proofs.RoomLemmas.{length-map_rows, lost_entries, lost_rows_entries, lost_references, lost_zeros, references_given_up, weight_join, zero_references}
-use Rattle.conn_core.proofs.TurnLemmas.{and_left, closes_where_worn}
+use Rattle.conn_core.proofs.RoomLemmas.{length-map_rows, lost_entries, lost_rows_entries, lost_references, lost_zeros, references_given_up, zero_references}
+use Rattle.conn_core.proofs.TurnLemmas.{closes_where_worn}
 
 pub closes_bound : (t : Table) → closes_of t ≤ 1
 closes_bound t = elim (is_open t) as (λ b. cond b 1 0 ≤ 1) [ true ↦ omega arith | false ↦ omega arith ]
@@ -38,7 +39,7 @@ roomier s n room more t a b c h =
       zeros = h.zeros;
     }
 
-pub closed_room : (s : Settings) (n m : ℕ) (room : Capacities) (t : Table) (reason : Reason) → n ≤ m → m ≤ s.journal + 1 → m + weight_of entries_of t.rows ≤ room.journal → t.leases_drawn ≤ m → t.requests_drawn ≤ m → t.frames_taken ≤ m
+pub closed_room : (s : Settings) (n m : ℕ) (room : Capacities) (t : Table) (reason : Reason) → n ≤ m → m ≤ s.journal + 1 → m + sum_by entries_of t.rows ≤ room.journal → t.leases_drawn ≤ m → t.requests_drawn ≤ m → t.frames_taken ≤ m
     → IsRoomy s n room t → IsRoomy s m room (closed_by reason t)
 closed_room s n m room t reason up end fits leases requests frames h =
     let lost = lost_entries reason t.rows in
@@ -61,12 +62,12 @@ closed_room s n m room t reason up end fits leases requests frames h =
       leases_drawn = leases;
       requests_drawn = requests;
       frames_taken = frames;
-      zeros = omega (arith, weight_join zero_reference t.free (references_of is_queued t.rows), weight_join zero_reference t.quarantined (references_of is_sent t.rows));
+      zeros = omega (arith, sum_by-append zero_reference t.free (references_of is_queued t.rows), sum_by-append zero_reference t.quarantined (references_of is_sent t.rows));
     }
 
 -- the limit is reached by the worn entry
 worn_limit : (s : Settings) (n : ℕ) (t : Table) → wears s n t ≡ true → n ≡ s.journal
-worn_limit s n t h = let here : (n == s.journal) ≡ true = and_left (n == s.journal) (is_open t) h in grind (arith, nat_tests)
+worn_limit s n t h = let here : (n == s.journal) ≡ true = (and_parts (n == s.journal) (is_open t) h).0 in grind (arith, nat_tests)
 
 not_worn : (s : Settings) (n : ℕ) (t : Table) → wears s n t ≡ false → is_open t ≡ true → n ≢ s.journal
 not_worn s n t h o e = let same : (n == s.journal) ≡ true = grind (arith, nat_tests) in

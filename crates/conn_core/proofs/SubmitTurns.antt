@@ -1,26 +1,18 @@
 -- Where a request is accepted, its entry can be written down.
-use Rattle.std.proofs.Common.{◌≡◌, ℕ, ◌<◌, inl, inr, Bool, true, false, List, [], ◌∷◌, Option, Some, None, Result, Ok, Err, length, refl, arith, nat_lt}
+use Rattle.std.proofs.Common.{◌≡◌, ℕ, ◌<◌, true, List, [], ◌∷◌, None, Result, Ok, Err, length, refl, arith, nat_lt}
 use Rattle.std.specs.Prelude.{if◌then◌else◌}
 use Rattle.std.proofs.lemmas.Bool.Decides.{nat_tests}
 use Rattle.wire_frames.specs.WireMeaning.{WireMeaning}
 use Rattle.wire_frames.specs.declared.asks.Ask.{Ask}
-use Rattle.wire_frames.specs.declared.ends.Reason.{Reason}
 use Rattle.conn_core.specs.Rooms.{CanTurn, Capacities, HasTurnRoom, IsRoomy, IsUnderWay}
-use Rattle.conn_core.specs.Steps.{IsGiven, Request, Started, accepted_of, answer_of, frame_at, next_reference, place_for, prepared, table_or, when_open, with_reference}
+use Rattle.conn_core.specs.Steps.{Request, Started, accepted_of, answer_of, frame_at, next_reference, reference_to_try, prepared, table_or, with_reference}
 use Rattle.conn_core.specs.Tables.{Table, holds}
 use Rattle.conn_core.specs.declared.answers.Accepted.{Accepted}
 use Rattle.conn_core.specs.declared.answers.SubmitRefusal.{SubmitRefusal}
 use Rattle.conn_core.specs.declared.answers.SubmitRefusal.TheVariants as submits
 use Rattle.conn_core.specs.declared.settings.Settings.{Settings}
 use Rattle.conn_core.proofs.EventRoom.{started_room}
-
-opened_ok : {A E : Type 0} (refusal : Reason → E) (closed : Option Reason) (next : Result A E) (a : A) → when_open refusal closed next ≡ Ok a → (closed ≡ None) × (next ≡ Ok a)
-opened_ok refusal None next a h = (refl, h)
-opened_ok refusal (Some reason) next a h = cc
-
-tested_ok : {A E : Type 0} (b : Bool) (x : Result A E) (e : E) (a : A) → (if b then x else Err e) ≡ Ok a → (b ≡ true) × (x ≡ Ok a)
-tested_ok true x e a h = (refl, h)
-tested_ok false x e a h = cc
+use Rattle.conn_core.proofs.RefusalLemmas.{opened_ok, tested_ok}
 
 framed_ok : (wire : WireMeaning) (ask : Ask) (o : Result ℕ SubmitRefusal) (frame : List ℕ) → Ok frame ≡ frame_at wire ask o → (r : ℕ) × (o ≡ Ok r)
 framed_ok wire ask (Ok r) frame h = (r, refl)
@@ -29,17 +21,13 @@ framed_ok wire ask (Err e) frame h = cc
 -- only an open table with room for a row has a frame for a request
 pub prepared_ok : (wire : WireMeaning) (t : Table) (q : Request) (frame : List ℕ) → Ok frame ≡ prepared wire t q → (t.closed ≡ None) × (length t.rows < 1024)
 prepared_ok wire t q frame h =
-    let place = framed_ok wire q.ask (place_for t q.actor q.lease) frame h in
+    let place = framed_ok wire q.ask (reference_to_try t q.actor q.lease) frame h in
     let inner : Result ℕ SubmitRefusal = if nat_lt (length t.rows) 1024 then Ok (next_reference t.free) else Err submits.TableFull in
     let first = opened_ok submits.Closed t.closed (if holds q.actor q.lease t then inner else Err submits.NoLease) place.0 place.1 in
     let second = tested_ok (holds q.actor q.lease t) inner submits.NoLease place.0 first.1 in
     let third = tested_ok {A = ℕ} {E = SubmitRefusal} (nat_lt (length t.rows) 1024) (Ok (next_reference t.free)) submits.TableFull place.0 second.1 in
     let below : nat_lt (length t.rows) 1024 ≡ true = third.0 in
     let few : length t.rows < 1024 = grind (arith, nat_tests) in (first.0, few)
-
--- an answer that is no want of memory is the one that was to be given
-pub given_ok : {A E : Type 0} (no_memory : E) (a : A) (wanted : Result A E) → IsGiven no_memory (Ok a) wanted → Ok a ≡ wanted
-given_ok no_memory a wanted h = elim h [ inl e ↦ e | inr e ↦ cc ]
 
 start_turns_free : (s : Settings) (n : ℕ) (room : Capacities) (t : Table) (q : Request) (frame free : List ℕ) (a : Accepted) → t.free ≡ free → Ok a ≡ accepted_of (answer_of (with_reference t q frame free)) → t.closed ≡ None → length t.rows < 1024 → HasTurnRoom n room t → IsRoomy s n room t → IsUnderWay s n t
     → CanTurn s n room (table_or t (with_reference t q frame free))

@@ -1,5 +1,5 @@
 -- What an entry says by itself: whether it closes the connection, and the moment that it brings.
-use Rattle.std.specs.Prelude.{ℕ, max, Bool, is_some, List, [], ◌∷◌, Option, Some, None}
+use Rattle.std.specs.Prelude.{ℕ, max, Bool, true, false, is_some, List, [], ◌∷◌, Option, Some, None, count_by}
 use Rattle.wire_frames.specs.declared.ends.Reason.{Reason}
 use Rattle.wire_frames.specs.declared.ends.Reason.TheVariants as reasons
 use Rattle.conn_core.specs.declared.entries.Answer.{Answer}
@@ -53,3 +53,20 @@ clock_from clock (e ∷ es) = clock_from (clock_by clock e.event) es
 -- the greatest moment of a journal
 abbrev pub clock_of : List Entry → ℕ
 clock_of journal = clock_from 0 journal
+
+-- a frame comes by the event
+abbrev pub is_frame : Event → Bool
+is_frame (Frame bytes) = true
+is_frame _ = false
+
+-- a request is handed in by the event
+abbrev pub is_submit : Event → Bool
+is_submit (Submit lease ask timeout now) = true
+is_submit _ = false
+
+-- how many entries of a journal are frames, and how many are requests
+abbrev pub frames_in : List Entry → ℕ
+frames_in journal = count_by (λ e. is_frame e.event) journal
+
+abbrev pub requests_in : List Entry → ℕ
+requests_in journal = count_by (λ e. is_submit e.event) journal

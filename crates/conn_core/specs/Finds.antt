@@ -1,5 +1,5 @@
 -- The first item of a list that passes a test.
-use Rattle.std.specs.Prelude.{◌≡◌, ℕ, ◌+◌, ◌<◌, Bool, true, cond, List, [], ◌∷◌, Some, length, remove, slice_index_or, slice_set}
+use Rattle.std.specs.Prelude.{◌≡◌, ℕ, ◌<◌, Bool, true, cond, List, [], ◌∷◌, Some, length, remove, slice_index_or, slice_set}
 use Rattle.std.specs.List.{find}
 
 -- the list with that item changed
@@ -12,12 +12,7 @@ abbrev pub remove_first : {X : Type 0} → (X → Bool) → List X → List X
 remove_first p [] = []
 remove_first p (x ∷ xs) = cond (p x) xs (x ∷ remove_first p xs)
 
--- the weights of all items together
-abbrev pub weight_of : {X : Type 0} → (X → ℕ) → List X → ℕ
-weight_of w [] = 0
-weight_of w (x ∷ xs) = w x + weight_of w xs
-
--- i is the place of the first item that passes
+-- i is the place of the first item that passes, by what follows for a list with that item changed or removed
 pub record IsFirstAt {X : Type 0} (p : X → Bool) (xs : List X) (i : ℕ) : Type 0 where
   pub within : i < length xs
   pub found : (x : X) → slice_index_or xs i x ≡ x → find p xs ≡ Some x

@@ -66,7 +66,7 @@ occurrences n ns = count_by (λ m. m == n) ns
 -- ---- the law
 
 pub record HistoryLaw (c : Connection) (journal : List Entry) : Type 0 where
-  -- An id is accepted once, and sent once, while it is live.
+  -- An id is accepted once; it is sent at most once, and only while it is live.
   pub accepted_once : (id : ℕ) (r other : Submitted journal id) → r.place ≡ other.place
   pub sent_once : (id j k : ℕ) → SentAt journal id j → SentAt journal id k → j ≡ k
   pub sent_live : (id k : ℕ) → SentAt journal id k

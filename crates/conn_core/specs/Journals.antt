@@ -1,5 +1,7 @@
 -- Journals: what a connection went through, entry by entry.
-use Rattle.std.specs.Prelude.{◌≡◌, ℕ, ◌+◌, Bool, true, false, ◌&&◌, ◌==◌, List, [], ◌∷◌, ◌++◌, length, Option, Some, None}
+use Rattle.std.specs.Prelude.{◌≡◌, ℕ, ◌+◌, ◌≤◌, IsTrue, Bool, true, false, ◌&&◌, ◌==◌, List, [], ◌∷◌, ◌++◌, length, Option, Some, None}
+use Rattle.std.specs.List.{slice_get}
+use Rattle.wire_frames.specs.WireMeaning.{WireMeaning}
 use Rattle.wire_frames.specs.declared.ends.Reason.TheVariants as reasons
 use Rattle.conn_core.specs.Steps.{closed_by, step}
 use Rattle.conn_core.specs.Tables.{Connection, Table, is_open, opening}
@@ -7,7 +9,7 @@ use Rattle.conn_core.specs.declared.entries.Answer.{Answer}
 use Rattle.conn_core.specs.declared.entries.Answer.TheVariants as answers
 use Rattle.conn_core.specs.declared.entries.Entry.{Entry}
 use Rattle.conn_core.specs.declared.entries.Event.{Event}
-use Rattle.conn_core.specs.declared.entries.Event.TheVariants.{Close}
+use Rattle.conn_core.specs.declared.entries.Event.TheVariants.{Submit, Close}
 use Rattle.conn_core.specs.declared.settings.Settings.{Settings}
 
 -- the table after an event; a refused one leaves it
@@ -61,3 +63,16 @@ pub data Legal (c : Connection) : List Entry → Type 0 where
   opened : Legal c []
   turned : (journal : List Entry) (e : Entry) (t : Table) → Legal c journal → is_worn e.event ≡ false → step c (table_of c journal) e.actor e.event ≡ Some (t, e.answer)
       → Legal c (journal ++ turn_of c.settings (length journal + 1) t e)
+
+-- the longest time that a request may have, in milliseconds: an hour
+abbrev pub timeout_limit : ℕ
+timeout_limit = 3600000
+
+-- a request that is handed in has an ask that the wire admits, and a time from 1 to the longest
+abbrev pub IsAdmitted : WireMeaning → Event → Type 0
+IsAdmitted wire (Submit lease ask timeout now) = IsTrue (wire.admits ask) × (1 ≤ timeout) × (timeout ≤ timeout_limit)
+IsAdmitted wire _ = Unit {0}
+
+-- so has each request of a journal
+abbrev pub AreAdmitted : WireMeaning → List Entry → Type 0
+AreAdmitted wire journal = (k : ℕ) (e : Entry) → slice_get journal k ≡ Some e → IsAdmitted wire e.event

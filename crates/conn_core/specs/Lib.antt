@@ -1,3 +1,5 @@
+pub mod BareWires
+pub mod Causes
 pub mod Ends
 pub mod Entries
 pub mod Finds
@@ -8,6 +10,7 @@ pub mod LeaseLists
 pub mod Places
 pub mod Requests
 pub mod Rooms
+pub mod SoundRows
 pub mod States
 pub mod Steps
 pub mod TableLaw

@@ -4,7 +4,7 @@ use Rattle.wire_frames.specs.WireMeaning.{Refused}
 use Rattle.conn_core.specs.Steps.{Request}
 use Rattle.conn_core.specs.declared.drafts.Draft.{Draft}
 use Rattle.conn_core.specs.declared.drafts.Draft.TheVariants.{Written, Unwritable}
-use Rattle.conn_core.specs.declared.submitting.Request.{Request as Handed}
+use Rattle.conn_core.specs.declared.submitting.Handed.{Handed}
 
 abbrev pub request_of : Handed → Request
 request_of r = record { actor = r.actor; lease = r.lease; ask = r.ask; timeout = r.timeout_ms; moment = r.moment }

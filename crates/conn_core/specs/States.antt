@@ -1,7 +1,7 @@
 -- What contracts see of a connection's state, and what each call does to it.
-use Rattle.std.specs.Prelude.{◌≡◌, ◌⊎◌, ℕ, ◌+◌, List, [], ◌∷◌, ◌++◌, length, Option, Some, None}
+use Rattle.std.specs.Prelude.{◌≡◌, ◌⊎◌, ℕ, ◌+◌, ◌<◌, ◌^◌, List, [], ◌∷◌, ◌++◌, length, Option, Some, None}
 use Rattle.wire_frames.specs.WireMeaning.{WireMeaning}
-use Rattle.conn_core.specs.Journals.{table_of, turn_of, worn_entry}
+use Rattle.conn_core.specs.Journals.{Legal, table_of, turn_of, worn_entry}
 use Rattle.conn_core.specs.Steps.{step}
 use Rattle.conn_core.specs.Tables.{Connection, Table}
 use Rattle.conn_core.specs.declared.entries.Answer.{Answer}
@@ -47,3 +47,13 @@ Grows actor old new =
     (new ≡ old)
     ⊎ ((e : Entry) × (e.actor ≡ actor) × (new ≡ old ++ e ∷ []))
     ⊎ ((e : Entry) × (e.actor ≡ actor) × (new ≡ old ++ e ∷ worn_entry actor ∷ []))
+
+-- a state goes on to another by a call of an actor
+pub record GoesOn {W : Type 0} (meaning : W → WireMeaning) (actor : ℕ) (old new : State W) : Type 0 where
+  -- The wire and the settings stay.
+  pub key : new.key ≡ old.key
+  -- The journal goes on by one turn of the actor at most.
+  pub grows : Grows actor old.journal new.journal
+  -- The journal is legal, and its length fits a number of the machine.
+  pub legal : Legal (connection_of meaning new.key) new.journal
+  pub short : length new.journal < 2 ^ 63

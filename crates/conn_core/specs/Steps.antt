@@ -102,8 +102,8 @@ with_reference t q frame [] = Err submit_refusals.NoReference
 with_reference t q frame (reference ∷ rest) = Ok (started t q frame reference rest)
 
 -- the reference to try, where the caller may hand in a request
-abbrev pub place_for : Table → ℕ → ℕ → Result ℕ SubmitRefusal
-place_for t actor lease =
+abbrev pub reference_to_try : Table → ℕ → ℕ → Result ℕ SubmitRefusal
+reference_to_try t actor lease =
     when_open submit_refusals.Closed t.closed (
     if holds actor lease t
     then (if nat_lt (length t.rows) rows_limit then Ok (next_reference t.free) else Err submit_refusals.TableFull)
@@ -119,7 +119,7 @@ frame_at wire ask (Err refusal) = Err refusal
 frame_at wire ask (Ok reference) = frame_for wire ask (wire.frame_of ask reference)
 
 abbrev pub prepared : WireMeaning → Table → Request → Result (List ℕ) SubmitRefusal
-prepared wire t q = frame_at wire q.ask (place_for t q.actor q.lease)
+prepared wire t q = frame_at wire q.ask (reference_to_try t q.actor q.lease)
 
 -- only then is the reference drawn, if there is one
 abbrev pub with_frame : Table → Request → Result (List ℕ) SubmitRefusal → Result (Table × Started) SubmitRefusal
@@ -229,8 +229,8 @@ table_or t (Ok p) = p.0
 table_or t (Err refusal) = t
 
 -- a call answered what it was to, or found no memory
-abbrev pub IsGiven : {A E : Type 0} → E → Result A E → Result A E → Type 0
-IsGiven no_memory result wanted = (result ≡ wanted) ⊎ (result ≡ Err no_memory)
+abbrev pub IsGivenOrNoMemory : {A E : Type 0} → E → Result A E → Result A E → Type 0
+IsGivenOrNoMemory no_memory result wanted = (result ≡ wanted) ⊎ (result ≡ Err no_memory)
 
 -- what a caller is told of a request that was accepted
 abbrev pub accepted_of : {E : Type 0} → Result Started E → Result Accepted E

@@ -1,8 +1,9 @@
--- What the table after a journal and the places of the journal say alike: the clock, the leases and the close.
+-- What the table after a journal and the places of the journal say alike: the clock, the leases, the close, and how many
+-- frames and requests there were.
 use Rattle.std.specs.Prelude.{◌≡◌, ◌↔◌, ℕ, List, Some, None}
 use Rattle.std.specs.List.{slice_get}
 use Rattle.wire_frames.specs.declared.ends.Reason.{Reason}
-use Rattle.conn_core.specs.Entries.{clock_of, closing_reason}
+use Rattle.conn_core.specs.Entries.{clock_of, closing_reason, frames_in, requests_in}
 use Rattle.conn_core.specs.Journals.{table_of}
 use Rattle.conn_core.specs.LeaseLists.{LeaseLists, leases_from, no_leases}
 use Rattle.conn_core.specs.Tables.{Connection, Table}
@@ -27,3 +28,7 @@ pub record TableLaw (c : Connection) (journal : List Entry) : Type 0 where
   pub leases : leases_in (table_of c journal) ≡ leases_from c.settings no_leases journal
   -- It is closed exactly where an entry closes, with that entry's reason.
   pub closed : (reason : Reason) → ((table_of c journal).closed ≡ Some reason) ↔ ClosesWith journal reason
+  -- As many frames were taken as there are entries of frames, so a frame's number is one among them.
+  pub frames : (table_of c journal).frames_taken ≡ frames_in journal
+  -- As many requests were accepted as there are entries of requests.
+  pub requests : (table_of c journal).requests_drawn ≡ requests_in journal

@@ -1,5 +1,5 @@
 -- The table of a connection: plain lists.
-use Rattle.std.specs.Prelude.{ℕ, ◌+◌, ◌-◌, ◌^◌, ◌<◌, ◌≤◌, min, max, Bool, true, false, ◌&&◌, ◌==◌, cond, List, [], ◌∷◌, Option, Some, None}
+use Rattle.std.specs.Prelude.{ℕ, ◌+◌, ◌-◌, ◌^◌, ◌<◌, ◌≤◌, min, max, Bool, true, false, ◌&&◌, ◌==◌, cond, is_none, List, [], ◌∷◌, Option, None}
 use Rattle.std.specs.List.{range_with_len, list_any}
 use Rattle.wire_frames.specs.WireMeaning.{WireMeaning}
 use Rattle.wire_frames.specs.declared.ends.EndKind.TheVariants.{Lost}
@@ -63,7 +63,7 @@ opening s = record {
 }
 
 abbrev pub is_open : Table → Bool
-is_open t = elim t.closed [ None ↦ true | Some reason ↦ false ]
+is_open t = is_none t.closed
 
 -- the clock and a time after it, ending at the greatest moment
 abbrev pub deadline_of : ℕ → ℕ → ℕ

@@ -22,13 +22,6 @@ pub enum AskRefusal {
     NoMemory,
 }
 
-/// Why a lease wasn't looked up or released.
-#[derive(Clone, Copy, Debug, PartialEq, Eq)]
-pub enum LeaseRefusal {
-    Closed(Reason),
-    NoLease,
-}
-
 /// A request that was accepted, and the reference under which it goes out.
 #[derive(Clone, Copy, Debug, PartialEq, Eq)]
 pub struct Accepted {
@@ -91,14 +84,6 @@ pub enum CancelRefusal {
 pub enum TakeRefusal {
     Pending,
     NoRequest,
-}
-
-/// How many rows, leases and waiters a tick ended.
-#[derive(Clone, Copy, Debug, PartialEq, Eq)]
-pub struct Ticked {
-    pub rows: u32,
-    pub leases: u32,
-    pub waiters: u32,
 }
 
 impl From<AllocError> for AskRefusal {

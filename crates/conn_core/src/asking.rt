@@ -1,4 +1,4 @@
-ghost use Rattle.std.specs.Prelude.{◌≡◌, ◌<◌, ◌≤◌, ◌-◌, ◌^◌, vec_len};
+ghost use Rattle.std.specs.Prelude.{◌≡◌, ◌<◌, ◌-◌, ◌^◌, vec_len};
 ghost use Rattle.std.specs.Vec.{vec_capacity};
 ghost use Rattle.conn_core.specs.Rooms.{lists_of};
 ghost use Rattle.conn_core.specs.Steps.{answer_of, ask_lease, table_or};
@@ -7,11 +7,11 @@ use crate::answers::{AskRefusal, LeaseAnswer};
 use crate::lists::add;
 use crate::rows::Lease;
 use crate::settings::Settings;
-use crate::tables::{Table, find_deadline};
+use crate::tables::{KeptTable, MAX_WAITERS, find_deadline};
 
 /// Grants a lease, or lets its actor wait for one.
 pub(crate) fn ask(
-    table: &mut Table,
+    table: &mut KeptTable,
     settings: &Settings,
     actor: u32,
     now: u64,
@@ -27,7 +27,7 @@ pub(crate) fn ask(
     if let Some(reason) = table.closed {
         return Err(AskRefusal::Closed(reason));
     }
-    if table.waiting.len() >= 64 {
+    if table.waiting.len() >= MAX_WAITERS {
         return Err(AskRefusal::QueueFull);
     }
     table.clock = table.clock.max(now);

@@ -1,8 +1,8 @@
-ghost use Rattle.std.specs.Prelude.{◌≡◌, ◌+◌, ◌≤◌, ◌<◌, IfOk, OnOk, OnErr, vec_len, Ok};
+ghost use Rattle.std.specs.Prelude.{◌≡◌, ◌<◌, IfOk, OnOk, OnErr, vec_len, Ok};
 ghost use Rattle.std.specs.Vec.{vec_capacity};
 ghost use Rattle.conn_core.specs.Tables.{IsSettings};
 ghost use Rattle.conn_core.specs.Rooms.{HasTurnRoom, IsKept, Stays, Turns, capacities_of, lists_of};
-ghost use Rattle.conn_core.specs.Steps.{IsGiven, answer_of, ask_lease, asked_answer, cancel, collect, table_or, take_send};
+ghost use Rattle.conn_core.specs.Steps.{IsGivenOrNoMemory, answer_of, ask_lease, asked_answer, cancel, collect, table_or, take_send};
 ghost use Rattle.conn_core.specs.declared.entries.Answer.TheVariants as answers;
 ghost use Rattle.conn_core.specs.declared.entries.Event.TheVariants as events;
 
@@ -34,7 +34,7 @@ fn reserve_lease(kept: &mut Kept, settings: &Settings) -> Result<(), AllocError>
     ensures held { OnOk result (vec_len kept.new.table.held < vec_capacity kept.new.table.held) }
     ensures waiting { OnOk result (vec_len kept.new.table.waiting < vec_capacity kept.new.table.waiting) }
 {
-    reserve_turn(kept)?;
+    reserve_turn(kept, settings)?;
     kept.table.held.reserve(1)?;
     kept.table.waiting.reserve(1)
 }
@@ -47,7 +47,7 @@ pub(crate) fn ask_lease(
 ) -> Result<LeaseAnswer, AskRefusal>
     requires settings { IsSettings settings.now }
     requires kept { IsKept settings.now kept.old }
-    ensures answer { IsGiven AskRefusal.NoMemory result (answer_of (ask_lease settings.now (lists_of kept.old.table) actor now)) }
+    ensures answer { IsGivenOrNoMemory AskRefusal.NoMemory result (answer_of (ask_lease settings.now (lists_of kept.old.table) actor now)) }
     ensures turned { IfOk result (λ answer. Turns settings.now kept.old.journal.items (table_or (lists_of kept.old.table) (ask_lease settings.now (lists_of kept.old.table) actor now)) (record { actor = actor; event = events.AskLease now; answer = asked_answer answer }) kept.new.journal.items (lists_of kept.new.table)) }
     ensures stays { OnErr result (Stays kept.old.journal.items (lists_of kept.old.table) kept.new.journal.items (lists_of kept.new.table)) }
     ensures kept { IsKept settings.now kept.new }

@@ -1,15 +1,14 @@
-ghost use Rattle.std.specs.Prelude.{◌≡◌, ◌+◌, ◌≤◌, ◌++◌, ◌∷◌, [], map, vec_len};
+ghost use Rattle.std.specs.Prelude.{◌≡◌, ◌+◌, ◌≤◌, ◌++◌, ◌∷◌, [], map, vec_len, sum_by};
 ghost use Rattle.std.specs.Vec.{vec_capacity};
 ghost use Rattle.std.specs.VecDeque.{deque_len, deque_capacity};
-ghost use Rattle.conn_core.specs.Finds.{weight_of};
-ghost use Rattle.conn_core.specs.Rooms.{lists_of, references_kept};
+ghost use Rattle.conn_core.specs.Rooms.{HasEndRoom, KeepsRoom, lists_of, references_kept, room_of};
 ghost use Rattle.conn_core.specs.Steps.{closed_by};
 ghost use Rattle.conn_core.specs.Tables.{is_queued, is_sent, lost_row, references_of};
 
 use crate::ends::make_lost;
 use crate::lists::{add, add_back};
 use crate::rows::{Phase, Row};
-use crate::tables::Table;
+use crate::tables::KeptTable;
 use std::alloc::Global;
 use std::collections::VecDeque;
 use wire_frames::Reason;
@@ -53,8 +52,8 @@ fn lose_rows(
     free: &mut VecDeque<u16>,
     quarantined: &mut Vec<u16>,
 )
-    requires free { deque_len free.old + weight_of references_kept rows.old.items ≤ deque_capacity free.old }
-    requires quarantined { vec_len quarantined.old + weight_of references_kept rows.old.items ≤ vec_capacity quarantined.old }
+    requires free { deque_len free.old + sum_by references_kept rows.old.items ≤ deque_capacity free.old }
+    requires quarantined { vec_len quarantined.old + sum_by references_kept rows.old.items ≤ vec_capacity quarantined.old }
     ensures rows { rows.new.items ≡ map (lost_row reason) rows.old.items }
     ensures freed { free.new.items ≡ free.old.items ++ references_of is_queued rows.old.items }
     ensures put_out { quarantined.new.items ≡ quarantined.old.items ++ references_of is_sent rows.old.items }
@@ -67,12 +66,10 @@ fn lose_rows(
 }
 
 /// Closes an open table.
-pub(crate) fn close(table: &mut Table, reason: Reason)
-    requires free { deque_len table.old.free + weight_of references_kept table.old.rows.items ≤ deque_capacity table.old.free }
-    requires quarantined { vec_len table.old.quarantined + weight_of references_kept table.old.rows.items ≤ vec_capacity table.old.quarantined }
+pub(crate) fn close(table: &mut KeptTable, reason: Reason)
+    requires ending { HasEndRoom (room_of table.old) table.old.rows.items }
     ensures table { lists_of table.new ≡ closed_by reason (lists_of table.old) }
-    ensures free_room { deque_capacity table.old.free ≤ deque_capacity table.new.free }
-    ensures quarantine_room { vec_capacity table.old.quarantined ≤ vec_capacity table.new.quarantined }
+    ensures keeps { KeepsRoom (room_of table.old) (room_of table.new) }
 {
     lose_rows(
         &mut table.rows,

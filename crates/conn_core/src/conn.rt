@@ -1,9 +1,13 @@
-ghost use Rattle.std.specs.Prelude.{◌≡◌, ◌+◌, ◌<◌, ◌≤◌, ◌^◌, [], length, ◌⊎◌, Err, IfOk, IfSome, IsNone, OnErr, IsTrue};
-ghost use Rattle.conn_core.specs.Journals.{Legal};
-ghost use Rattle.conn_core.specs.Tables.{IsSettings};
-ghost use Rattle.conn_core.specs.Steps.{IsGiven, accepted_of, answer_of, apply_frame, ask_lease, cancel, collect, submit, take_send};
+ghost use Rattle.std.specs.Prelude.{◌≡◌, ◌+◌, ◌<◌, ◌≤◌, ◌^◌, [], false, ℕ, length, ◌⊎◌, Err, IfOk, IfSome, IsNone, OnErr, IsTrue};
+ghost use Rattle.node_tree.specs.declared.faults.WriteWhy.{WriteWhy};
+ghost use Rattle.wire_frames.specs.WireMeaning.{HasValuesOnlyIfDone};
+ghost use Rattle.wire_frames.specs.declared.ends.EndKind.{EndKind};
+ghost use Rattle.conn_core.specs.Causes.{HasEndedRow, HasLiveRow, HasNoRow, HasNothingToSend, IsTooLarge, IsUnwritable};
+ghost use Rattle.conn_core.specs.Journals.{AreAdmitted, Legal};
+ghost use Rattle.conn_core.specs.Tables.{IsSettings, holds, rows_limit, waiters_limit};
+ghost use Rattle.conn_core.specs.Steps.{IsGivenOrNoMemory, accepted_of, answer_of, apply_frame, ask_lease, cancel, collect, submit, take_send};
 ghost use Rattle.conn_core.specs.TableLaw.{ClosesWith, NoneCloses, TableLaw};
-ghost use Rattle.conn_core.specs.States.{Grows, connection_of, state_after, table_in};
+ghost use Rattle.conn_core.specs.States.{GoesOn, connection_of, state_after, table_in};
 ghost use Rattle.conn_core.specs.declared.entries.Event.TheVariants as events;
 
 use crate::answers::{
@@ -13,7 +17,7 @@ use crate::answers::{
 use crate::entries::{Entry, EntryList};
 use crate::kept::{Kept, open_kept};
 use crate::settings::Settings;
-use crate::submitting::Request;
+use crate::submitting::Handed;
 use crate::{calls, frames, requests};
 use node_tree::{ByteList, OwnedList};
 use std::alloc::{AllocError, Global};
@@ -31,7 +35,7 @@ pub struct ConnState<W: Wire> {
 
 impl<W: Wire> Model for ConnState<W> {
     ghost use Rattle.conn_core.specs.KeptStates.{IsState};
-    ghost use Rattle.conn_core.specs.States.{Key, State, connection_of};
+    ghost use Rattle.conn_core.specs.States.{State, connection_of};
 
     ghost Value = { State W };
 
@@ -55,21 +59,20 @@ impl<W: Wire> ConnState<W> {
         })
     }
 
-    /// Asks for a lease. It is held at once, or waited for.
+    /// Asks for a lease, at a moment in milliseconds. It is held at once, or waited for.
     pub fn ask_lease(&mut self, actor: u32, now: u64) -> Result<LeaseAnswer, AskRefusal>
-        ensures answer { IsGiven AskRefusal.NoMemory result (answer_of (ask_lease self.old.key.settings (table_in W.meaning self.old) actor now)) }
+        ensures answer { IsGivenOrNoMemory AskRefusal.NoMemory result (answer_of (ask_lease self.old.key.settings (table_in W.meaning self.old) actor now)) }
         ensures state { (result ≡ Err AskRefusal.NoMemory) ⊎ (self.new ≡ state_after W.meaning self.old actor (events.AskLease now)) }
-        ensures err { OnErr result (self.new.journal ≡ self.old.journal) }
+        ensures unchanged { OnErr result (self.new.journal ≡ self.old.journal) }
         ensures closed { (reason : Reason) → result ≡ Err (AskRefusal.Closed reason) → ClosesWith self.old.journal reason }
-        ensures key { self.new.key ≡ self.old.key }
-        ensures grows { Grows actor self.old.journal self.new.journal }
-        ensures legal { Legal (connection_of W.meaning self.new.key) self.new.journal }
-        ensures short { length self.new.journal < 2 ^ 63 }
+        ensures once_closed { (reason : Reason) → ClosesWith self.old.journal reason → IsGivenOrNoMemory AskRefusal.NoMemory result (Err (AskRefusal.Closed reason)) }
+        ensures queue_full { result ≡ Err AskRefusal.QueueFull → length (table_in W.meaning self.old).waiting ≡ waiters_limit }
+        ensures goes_on { GoesOn W.meaning actor self.old self.new }
     {
         calls::ask_lease(&mut self.kept, &self.settings, actor, now)
     }
 
-    /// Hands in a request, which is queued under the first free reference.
+    /// Hands in a request, which is queued under the first free reference. Its time and the moment are in milliseconds.
     pub fn submit(
         &mut self,
         actor: u32,
@@ -80,16 +83,19 @@ impl<W: Wire> ConnState<W> {
     ) -> Result<Accepted, SubmitRefusal>
         requires admitted { IsTrue ((W.meaning self.old.key.wire).admits ask) }
         requires timeout { (1 ≤ timeout_ms) × (timeout_ms ≤ 3600000) }
-        ensures answer { IsGiven SubmitRefusal.NoMemory result (accepted_of (answer_of (submit (W.meaning self.old.key.wire) (table_in W.meaning self.old) (record { actor = actor; lease = lease; ask = ask; timeout = timeout_ms; moment = now })))) }
+        ensures answer { IsGivenOrNoMemory SubmitRefusal.NoMemory result (accepted_of (answer_of (submit (W.meaning self.old.key.wire) (table_in W.meaning self.old) (record { actor = actor; lease = lease; ask = ask; timeout = timeout_ms; moment = now })))) }
         ensures state { (result ≡ Err SubmitRefusal.NoMemory) ⊎ (self.new ≡ state_after W.meaning self.old actor (events.Submit lease ask timeout_ms now)) }
-        ensures err { OnErr result (self.new.journal ≡ self.old.journal) }
+        ensures unchanged { OnErr result (self.new.journal ≡ self.old.journal) }
         ensures closed { (reason : Reason) → result ≡ Err (SubmitRefusal.Closed reason) → ClosesWith self.old.journal reason }
-        ensures key { self.new.key ≡ self.old.key }
-        ensures grows { Grows actor self.old.journal self.new.journal }
-        ensures legal { Legal (connection_of W.meaning self.new.key) self.new.journal }
-        ensures short { length self.new.journal < 2 ^ 63 }
+        ensures once_closed { (reason : Reason) → ClosesWith self.old.journal reason → IsGivenOrNoMemory SubmitRefusal.NoMemory result (Err (SubmitRefusal.Closed reason)) }
+        ensures no_lease { result ≡ Err SubmitRefusal.NoLease → holds actor lease (table_in W.meaning self.old) ≡ false }
+        ensures table_full { result ≡ Err SubmitRefusal.TableFull → length (table_in W.meaning self.old).rows ≡ rows_limit }
+        ensures unwritable { (entry : ℕ) (why : WriteWhy) → result ≡ Err (SubmitRefusal.Unwritable entry why) → IsUnwritable (W.meaning self.old.key.wire) (table_in W.meaning self.old) ask entry why }
+        ensures too_large { (size limit : ℕ) → result ≡ Err (SubmitRefusal.TooLarge size limit) → IsTooLarge (W.meaning self.old.key.wire) ask size limit }
+        ensures no_reference { result ≡ Err SubmitRefusal.NoReference → (table_in W.meaning self.old).free ≡ [] }
+        ensures goes_on { GoesOn W.meaning actor self.old self.new }
     {
-        let request = Request {
+        let request = Handed {
             actor,
             lease,
             ask,
@@ -103,26 +109,23 @@ impl<W: Wire> ConnState<W> {
     pub fn take_send(&mut self, actor: u32) -> Result<Sending, SendRefusal>
         ensures answer { result ≡ answer_of (take_send self.old.key.settings (table_in W.meaning self.old)) }
         ensures state { self.new ≡ state_after W.meaning self.old actor (events.TakeSend) }
-        ensures err { OnErr result (self.new.journal ≡ self.old.journal) }
+        ensures unchanged { OnErr result (self.new.journal ≡ self.old.journal) }
         ensures closed { (reason : Reason) → result ≡ Err (SendRefusal.Closed reason) → ClosesWith self.old.journal reason }
-        ensures key { self.new.key ≡ self.old.key }
-        ensures grows { Grows actor self.old.journal self.new.journal }
-        ensures legal { Legal (connection_of W.meaning self.new.key) self.new.journal }
-        ensures short { length self.new.journal < 2 ^ 63 }
+        ensures once_closed { (reason : Reason) → ClosesWith self.old.journal reason → result ≡ Err (SendRefusal.Closed reason) }
+        ensures nothing { result ≡ Err SendRefusal.Nothing → HasNothingToSend self.old.key.settings (table_in W.meaning self.old) }
+        ensures goes_on { GoesOn W.meaning actor self.old self.new }
     {
         calls::take_send(&mut self.kept, &self.settings, actor)
     }
 
     /// Takes a frame that came. Its bytes stand in the journal from then on.
     pub fn apply_frame(&mut self, actor: u32, frame: ByteList) -> Result<FrameAnswer, FrameRefusal>
-        ensures answer { IsGiven FrameRefusal.NoMemory result (answer_of (apply_frame (W.meaning self.old.key.wire) (table_in W.meaning self.old) frame)) }
+        ensures answer { IsGivenOrNoMemory FrameRefusal.NoMemory result (answer_of (apply_frame (W.meaning self.old.key.wire) (table_in W.meaning self.old) frame)) }
         ensures state { (result ≡ Err FrameRefusal.NoMemory) ⊎ (self.new ≡ state_after W.meaning self.old actor (events.Frame frame)) }
-        ensures err { OnErr result (self.new.journal ≡ self.old.journal) }
+        ensures unchanged { OnErr result (self.new.journal ≡ self.old.journal) }
         ensures closed { (reason : Reason) → result ≡ Err (FrameRefusal.Closed reason) → ClosesWith self.old.journal reason }
-        ensures key { self.new.key ≡ self.old.key }
-        ensures grows { Grows actor self.old.journal self.new.journal }
-        ensures legal { Legal (connection_of W.meaning self.new.key) self.new.journal }
-        ensures short { length self.new.journal < 2 ^ 63 }
+        ensures once_closed { (reason : Reason) → ClosesWith self.old.journal reason → IsGivenOrNoMemory FrameRefusal.NoMemory result (Err (FrameRefusal.Closed reason)) }
+        ensures goes_on { GoesOn W.meaning actor self.old self.new }
     {
         frames::apply_frame(&mut self.kept, &self.wire, &self.settings, actor, frame)
     }
@@ -131,11 +134,10 @@ impl<W: Wire> ConnState<W> {
     pub fn cancel(&mut self, actor: u32, id: u64) -> Result<(), CancelRefusal>
         ensures answer { result ≡ answer_of (cancel (table_in W.meaning self.old) actor id) }
         ensures state { self.new ≡ state_after W.meaning self.old actor (events.Cancel id) }
-        ensures err { OnErr result (self.new.journal ≡ self.old.journal) }
-        ensures key { self.new.key ≡ self.old.key }
-        ensures grows { Grows actor self.old.journal self.new.journal }
-        ensures legal { Legal (connection_of W.meaning self.new.key) self.new.journal }
-        ensures short { length self.new.journal < 2 ^ 63 }
+        ensures unchanged { OnErr result (self.new.journal ≡ self.old.journal) }
+        ensures no_request { result ≡ Err CancelRefusal.NoRequest → HasNoRow (table_in W.meaning self.old) actor id }
+        ensures already_ended { (kind : EndKind) → result ≡ Err (CancelRefusal.AlreadyEnded kind) → HasEndedRow (table_in W.meaning self.old) actor id kind }
+        ensures goes_on { GoesOn W.meaning actor self.old self.new }
     {
         calls::cancel(&mut self.kept, &self.settings, actor, id)
     }
@@ -144,11 +146,11 @@ impl<W: Wire> ConnState<W> {
     pub fn collect(&mut self, actor: u32, id: u64) -> Result<Outcome, TakeRefusal>
         ensures answer { result ≡ answer_of (collect (table_in W.meaning self.old) actor id) }
         ensures state { self.new ≡ state_after W.meaning self.old actor (events.Collect id) }
-        ensures err { OnErr result (self.new.journal ≡ self.old.journal) }
-        ensures key { self.new.key ≡ self.old.key }
-        ensures grows { Grows actor self.old.journal self.new.journal }
-        ensures legal { Legal (connection_of W.meaning self.new.key) self.new.journal }
-        ensures short { length self.new.journal < 2 ^ 63 }
+        ensures unchanged { OnErr result (self.new.journal ≡ self.old.journal) }
+        ensures shaped { IfOk result HasValuesOnlyIfDone }
+        ensures no_request { result ≡ Err TakeRefusal.NoRequest → HasNoRow (table_in W.meaning self.old) actor id }
+        ensures pending { result ≡ Err TakeRefusal.Pending → HasLiveRow (table_in W.meaning self.old) actor id }
+        ensures goes_on { GoesOn W.meaning actor self.old self.new }
     {
         calls::collect(&mut self.kept, &self.settings, actor, id)
     }
@@ -169,12 +171,14 @@ impl<W: Wire> ConnState<W> {
         self.wire.admits(ask)
     }
 
-    /// All that happened, in order. Past its limit it has the close and a collection for each row that was kept then.
+    /// All that happened, in order. Past its limit it has at most the close and a collection for each row that was kept then.
     pub fn journal(&self) -> &[Entry]
         ensures journal { result.now ≡ self.now.journal }
         ensures legal { Legal (connection_of W.meaning self.now.key) self.now.journal }
-        ensures places { TableLaw (connection_of W.meaning self.now.key) self.now.journal }
+        ensures by_places { TableLaw (connection_of W.meaning self.now.key) self.now.journal }
         ensures within { length self.now.journal ≤ self.now.key.settings.journal + 1025 }
+        ensures under_limit { NoneCloses self.now.journal → length self.now.journal < self.now.key.settings.journal }
+        ensures admitted { AreAdmitted (W.meaning self.now.key.wire) self.now.journal }
         ensures short { length self.now.journal < 2 ^ 63 }
     {
         self.kept.journal.as_slice()
@@ -184,8 +188,10 @@ impl<W: Wire> ConnState<W> {
     pub fn into_journal(self) -> EntryList
         ensures journal { result ≡ self.journal }
         ensures legal { Legal (connection_of W.meaning self.key) self.journal }
-        ensures places { TableLaw (connection_of W.meaning self.key) self.journal }
+        ensures by_places { TableLaw (connection_of W.meaning self.key) self.journal }
         ensures within { length self.journal ≤ self.key.settings.journal + 1025 }
+        ensures under_limit { NoneCloses self.journal → length self.journal < self.key.settings.journal }
+        ensures admitted { AreAdmitted (W.meaning self.key.wire) self.journal }
         ensures short { length self.journal < 2 ^ 63 }
     {
         let ConnState { kept, .. } = self;

@@ -1,4 +1,4 @@
-ghost use Rattle.std.specs.Prelude.{◌≡◌, ◌<◌, IfOk, IsTrue};
+ghost use Rattle.std.specs.Prelude.{◌<◌, IfOk, IsTrue};
 ghost use Rattle.conn_core.specs.Requests.{IsDraftOf};
 
 use node_tree::{ByteList, OwnedList, WriteWhy};

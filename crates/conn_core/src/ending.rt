@@ -1,8 +1,5 @@
-ghost use Rattle.std.specs.Prelude.{◌≡◌, ◌+◌, ◌≤◌, IsTrue, vec_len};
-ghost use Rattle.std.specs.Vec.{vec_capacity};
-ghost use Rattle.std.specs.VecDeque.{deque_len, deque_capacity};
-ghost use Rattle.conn_core.specs.Finds.{weight_of};
-ghost use Rattle.conn_core.specs.Rooms.{lists_of, references_kept};
+ghost use Rattle.std.specs.Prelude.{◌≡◌, IsTrue};
+ghost use Rattle.conn_core.specs.Rooms.{HasEndRoom, KeepsRoom, lists_of, room_of};
 ghost use Rattle.conn_core.specs.Steps.{answer_of, cancel, collect, table_or};
 ghost use Rattle.conn_core.specs.Tables.{is_ended};
 ghost use Rattle.conn_core.specs.declared.rows.Phase.TheVariants.{Ended};
@@ -12,17 +9,15 @@ use crate::ends::make_cancelled;
 use crate::finding::place_of;
 use crate::lists::{add, add_back};
 use crate::rows::{Phase, Row};
-use crate::tables::Table;
+use crate::tables::KeptTable;
 use wire_frames::Outcome;
 
 /// Ends a live row of an actor, unanswered.
-pub(crate) fn cancel_row(table: &mut Table, actor: u32, id: u64) -> Result<(), CancelRefusal>
-    requires free { deque_len table.old.free + weight_of references_kept table.old.rows.items ≤ deque_capacity table.old.free }
-    requires quarantined { vec_len table.old.quarantined + weight_of references_kept table.old.rows.items ≤ vec_capacity table.old.quarantined }
+pub(crate) fn cancel_row(table: &mut KeptTable, actor: u32, id: u64) -> Result<(), CancelRefusal>
+    requires ending { HasEndRoom (room_of table.old) table.old.rows.items }
     ensures answer { result ≡ answer_of (cancel (lists_of table.old) actor id) }
     ensures table { lists_of table.new ≡ table_or (lists_of table.old) (cancel (lists_of table.old) actor id) }
-    ensures free_room { deque_capacity table.old.free ≤ deque_capacity table.new.free }
-    ensures quarantine_room { vec_capacity table.old.quarantined ≤ vec_capacity table.new.quarantined }
+    ensures keeps { KeepsRoom (room_of table.old) (room_of table.new) }
 {
     let at = match place_of(&table.rows, actor, id) {
         None => return Err(CancelRefusal::NoRequest),
@@ -57,7 +52,11 @@ fn outcome_of(row: Row) -> Outcome
 }
 
 /// Removes an ended row of an actor, and hands out how it ended.
-pub(crate) fn collect_row(table: &mut Table, actor: u32, id: u64) -> Result<Outcome, TakeRefusal>
+pub(crate) fn collect_row(
+    table: &mut KeptTable,
+    actor: u32,
+    id: u64,
+) -> Result<Outcome, TakeRefusal>
     ensures answer { result ≡ answer_of (collect (lists_of table.old) actor id) }
     ensures table { lists_of table.new ≡ table_or (lists_of table.old) (collect (lists_of table.old) actor id) }
     ensures free { table.new.free ≡ table.old.free }

@@ -5,7 +5,7 @@ ghost use Rattle.conn_core.specs.Tables.{is_lease_of, is_queued, is_reference, i
 
 use crate::rows::{Lease, Phase, Row};
 
-pub(crate) fn check_queued(row: &Row) -> bool
+pub(crate) fn is_queued(row: &Row) -> bool
     ensures { result ≡ is_queued row.now }
 {
     match &row.phase {
@@ -14,7 +14,7 @@ pub(crate) fn check_queued(row: &Row) -> bool
     }
 }
 
-pub(crate) fn check_sent(row: &Row) -> bool
+pub(crate) fn is_sent(row: &Row) -> bool
     ensures { result ≡ is_sent row.now }
 {
     match &row.phase {
@@ -23,73 +23,43 @@ pub(crate) fn check_sent(row: &Row) -> bool
     }
 }
 
-fn position_of(rows: &[Row], actor: u32, id: u64) -> Option<usize>
-    ensures { result ≡ position (is_row_of actor id) rows.now }
-{
-    rows.iter()
-        .position(|row| row.id == id && row.actor == actor)
-}
-
 /// The place of an actor's row.
 pub(crate) fn place_of(rows: &[Row], actor: u32, id: u64) -> Option<usize>
     ensures { MatchOption result (find (is_row_of actor id) rows.now ≡ None) (IsFirstAt (is_row_of actor id) rows.now) }
 {
-    position_of(rows, actor, id)
-}
-
-fn position_queued(rows: &[Row]) -> Option<usize>
-    ensures { result ≡ position is_queued rows.now }
-{
-    rows.iter().position(|row| check_queued(row))
+    rows.iter()
+        .position(|row| row.id == id && row.actor == actor)
 }
 
 /// The place of the first row that is queued.
 pub(crate) fn place_queued(rows: &[Row]) -> Option<usize>
     ensures { MatchOption result (find is_queued rows.now ≡ None) (IsFirstAt is_queued rows.now) }
 {
-    position_queued(rows)
-}
-
-fn position_sent(rows: &[Row], reference: u16) -> Option<usize>
-    ensures { result ≡ position (is_sent_with reference) rows.now }
-{
-    rows.iter()
-        .position(|row| row.reference == reference && check_sent(row))
+    rows.iter().position(|row| is_queued(row))
 }
 
 /// The place of the row that was sent under a reference and has not ended.
 pub(crate) fn place_sent(rows: &[Row], reference: u16) -> Option<usize>
     ensures { MatchOption result (find (is_sent_with reference) rows.now ≡ None) (IsFirstAt (is_sent_with reference) rows.now) }
 {
-    position_sent(rows, reference)
-}
-
-fn position_quarantined(references: &[u16], reference: u16) -> Option<usize>
-    ensures { result ≡ position (is_reference reference) references.now }
-{
-    references.iter().position(|r| *r == reference)
+    rows.iter()
+        .position(|row| row.reference == reference && is_sent(row))
 }
 
 /// The place of a reference in quarantine.
 pub(crate) fn place_quarantined(references: &[u16], reference: u16) -> Option<usize>
     ensures { MatchOption result (find (is_reference reference) references.now ≡ None) (IsFirstAt (is_reference reference) references.now) }
 {
-    position_quarantined(references, reference)
+    references.iter().position(|r| *r == reference)
 }
 
 pub(crate) fn count_sent(rows: &[Row]) -> usize
     ensures { result ≡ count_by is_sent rows.now }
 {
-    let mut count = 0;
-    for row in rows {
-        if check_sent(row) {
-            count += 1;
-        }
-    }
-    count
+    rows.iter().filter(|row| is_sent(row)).count()
 }
 
-pub(crate) fn check_holds(held: &[Lease], actor: u32, lease: u64) -> bool
+pub(crate) fn holds(held: &[Lease], actor: u32, lease: u64) -> bool
     ensures { result ≡ list_any (is_lease_of actor lease) held.now }
 {
     held.iter().any(|l| l.number == lease && l.actor == actor)

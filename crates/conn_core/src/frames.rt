@@ -1,8 +1,8 @@
-ghost use Rattle.std.specs.Prelude.{◌≡◌, ◌<◌, ◌≤◌, IfOk, OnOk, OnErr, vec_len};
-ghost use Rattle.conn_core.specs.Finds.{weight_of};
+ghost use Rattle.std.specs.Prelude.{◌≡◌, All, ◌<◌, OnOk, OnErr};
 ghost use Rattle.conn_core.specs.Tables.{IsSettings};
-ghost use Rattle.conn_core.specs.Rooms.{HasTurnRoom, IsKept, Stays, TurnsAs, capacities_of, lists_of, unasked};
-ghost use Rattle.conn_core.specs.Steps.{IsGiven, answer_of, apply_frame, frame_answer};
+ghost use Rattle.conn_core.specs.Rooms.{IsKept, Stays, TurnsAs, lists_of};
+ghost use Rattle.conn_core.specs.SoundRows.{IsSoundRow};
+ghost use Rattle.conn_core.specs.Steps.{IsGivenOrNoMemory, answer_of, apply_frame, frame_answer};
 ghost use Rattle.conn_core.specs.declared.entries.Event.TheVariants as events;
 
 use crate::answers::{FrameAnswer, FrameRefusal};
@@ -11,7 +11,6 @@ use crate::kept::{Kept, reserve_turn, write_down};
 use crate::receiving::receive;
 use crate::settings::Settings;
 use node_tree::ByteList;
-use std::alloc::AllocError;
 use wire_frames::Wire;
 
 fn write_received(answer: FrameAnswer) -> Answer
@@ -25,16 +24,6 @@ fn write_received(answer: FrameAnswer) -> Answer
     }
 }
 
-/// Takes room for a frame and all that it can cause.
-fn reserve_frame(kept: &mut Kept, settings: &Settings) -> Result<(), AllocError>
-    requires { IsKept settings.now kept.old }
-    ensures stays { Stays kept.old.journal.items (lists_of kept.old.table) kept.new.journal.items (lists_of kept.new.table) }
-    ensures kept { IsKept settings.now kept.new }
-    ensures turn { OnOk result (HasTurnRoom (vec_len kept.new.journal) (capacities_of kept.new) (lists_of kept.new.table)) }
-{
-    reserve_turn(kept)
-}
-
 /// Takes a frame, and keeps its bytes in the journal.
 pub(crate) fn apply_frame<W: Wire>(
     kept: &mut Kept,
@@ -45,13 +34,13 @@ pub(crate) fn apply_frame<W: Wire>(
 ) -> Result<FrameAnswer, FrameRefusal>
     requires settings { IsSettings settings.now }
     requires kept { IsKept settings.now kept.old }
-    requires asks { weight_of (unasked (W.meaning wire.now).admits) kept.old.table.rows.items ≡ 0 }
-    ensures answer { IsGiven FrameRefusal.NoMemory result (answer_of (apply_frame (W.meaning wire.now) (lists_of kept.old.table) frame)) }
+    requires sound { All (IsSoundRow (W.meaning wire.now)) kept.old.table.rows.items }
+    ensures answer { IsGivenOrNoMemory FrameRefusal.NoMemory result (answer_of (apply_frame (W.meaning wire.now) (lists_of kept.old.table) frame)) }
     ensures turned { OnOk result (TurnsAs settings.now kept.old.journal.items (apply_frame (W.meaning wire.now) (lists_of kept.old.table) frame) (λ answer. record { actor = actor; event = events.Frame frame; answer = frame_answer answer }) kept.new.journal.items (lists_of kept.new.table)) }
     ensures stays { OnErr result (Stays kept.old.journal.items (lists_of kept.old.table) kept.new.journal.items (lists_of kept.new.table)) }
     ensures kept { IsKept settings.now kept.new }
 {
-    reserve_frame(kept, settings)?;
+    reserve_turn(kept, settings)?;
     let answer = receive(&mut kept.table, wire, frame.as_slice())?;
     let entry = Entry {
         actor,

@@ -1,17 +1,16 @@
 ghost use Rattle.std.specs.Prelude.{◌≡◌, ◌+◌, ◌≤◌, ◌*◌, ◌++◌, [], IfOk, OnOk, vec_len, length};
 ghost use Rattle.std.specs.List.{range_with_len};
 ghost use Rattle.std.specs.Vec.{vec_capacity};
-ghost use Rattle.std.specs.VecDeque.{deque_len, deque_capacity};
-ghost use Rattle.conn_core.specs.Finds.{weight_of};
+ghost use Rattle.std.specs.VecDeque.{deque_capacity};
 ghost use Rattle.conn_core.specs.Journals.{settled, turn_of, wears, worn_entry};
-ghost use Rattle.conn_core.specs.Rooms.{CanTurn, IsKept, Turns, capacities_of, closes_of, lists_of, references_kept};
+ghost use Rattle.conn_core.specs.Rooms.{CanTurn, HasEndRoom, HasTurnRoom, IsKept, KeepsRoom, Stays, Turns, capacities_of, closes_of, lists_of, room_of};
 ghost use Rattle.conn_core.specs.Tables.{IsSettings, is_open, opening};
 
 use crate::closing::close;
 use crate::entries::{Answer, Entry, Event};
 use crate::lists::{add, add_back};
 use crate::settings::Settings;
-use crate::tables::Table;
+use crate::tables::KeptTable;
 use std::alloc::{AllocError, Global};
 use std::collections::VecDeque;
 use wire_frames::Reason;
@@ -20,7 +19,7 @@ use wire_frames::Reason;
 #[derive(Drop)]
 pub(crate) struct Kept {
     pub journal: Vec<Entry>,
-    pub table: Table,
+    pub table: KeptTable,
 }
 
 fn make_worn(actor: u32) -> Entry
@@ -35,39 +34,39 @@ fn make_worn(actor: u32) -> Entry
     }
 }
 
-pub(crate) fn check_open(table: &Table) -> bool
+pub(crate) fn is_open(table: &KeptTable) -> bool
     ensures { result ≡ is_open (lists_of table.now) }
 {
-    match &table.closed {
-        None => true,
-        Some(_) => false,
-    }
+    table.closed.is_none()
 }
 
 /// Whether so many entries bring an open table to its end.
-fn check_wears(table: &Table, settings: &Settings, entries: usize) -> bool
+fn wears(table: &KeptTable, settings: &Settings, entries: usize) -> bool
     ensures { result ≡ wears settings.now entries (lists_of table.now) }
 {
     if entries == settings.journal as usize {
-        check_open(table)
+        is_open(table)
     } else {
         false
     }
 }
 
 /// Writes an entry down, and closes the table where the journal is full by it.
-pub(crate) fn record(journal: &mut Vec<Entry>, table: &mut Table, settings: &Settings, entry: Entry)
+pub(crate) fn record(
+    journal: &mut Vec<Entry>,
+    table: &mut KeptTable,
+    settings: &Settings,
+    entry: Entry,
+)
     requires room { vec_len journal.old + 1 + closes_of (lists_of table.old) ≤ vec_capacity journal.old }
-    requires free { deque_len table.old.free + weight_of references_kept table.old.rows.items ≤ deque_capacity table.old.free }
-    requires quarantined { vec_len table.old.quarantined + weight_of references_kept table.old.rows.items ≤ vec_capacity table.old.quarantined }
+    requires ending { HasEndRoom (room_of table.old) table.old.rows.items }
     ensures journal { journal.new.items ≡ journal.old.items ++ turn_of settings.now (length journal.old.items + 1) (lists_of table.old) entry }
     ensures table { lists_of table.new ≡ settled settings.now (length journal.old.items + 1) (lists_of table.old) }
     ensures journal_room { vec_capacity journal.old ≤ vec_capacity journal.new }
-    ensures free_room { deque_capacity table.old.free ≤ deque_capacity table.new.free }
-    ensures quarantine_room { vec_capacity table.old.quarantined ≤ vec_capacity table.new.quarantined }
+    ensures keeps { KeepsRoom (room_of table.old) (room_of table.new) }
 {
     let actor = entry.actor;
-    let full = check_wears(table, settings, journal.len() + 1);
+    let full = wears(table, settings, journal.len() + 1);
     add(journal, entry);
     if full {
         close(table, Reason::Worn);
@@ -76,14 +75,12 @@ pub(crate) fn record(journal: &mut Vec<Entry>, table: &mut Table, settings: &Set
 }
 
 /// Takes room in the journal for one more event and all that can follow from it.
-pub(crate) fn reserve_turn(kept: &mut Kept) -> Result<(), AllocError>
-    requires rows { vec_len kept.old.table.rows ≤ 1024 }
-    requires held { vec_len kept.old.table.held ≤ 64 }
-    requires waiting { vec_len kept.old.table.waiting ≤ 64 }
-    ensures journal { kept.new.journal.items ≡ kept.old.journal.items }
+pub(crate) fn reserve_turn(kept: &mut Kept, settings: &Settings) -> Result<(), AllocError>
+    requires { IsKept settings.now kept.old }
     ensures table { kept.new.table ≡ kept.old.table }
-    ensures room { vec_capacity kept.old.journal ≤ vec_capacity kept.new.journal }
-    ensures ok { OnOk result (vec_len kept.new.journal + 3 * vec_len kept.old.table.rows + vec_len kept.old.table.held + vec_len kept.old.table.waiting + 6 ≤ vec_capacity kept.new.journal) }
+    ensures stays { Stays kept.old.journal.items (lists_of kept.old.table) kept.new.journal.items (lists_of kept.new.table) }
+    ensures kept { IsKept settings.now kept.new }
+    ensures turn { OnOk result (HasTurnRoom (vec_len kept.new.journal) (capacities_of kept.new) (lists_of kept.new.table)) }
 {
     let rows = kept.table.rows.len();
     let held = kept.table.held.len();
@@ -124,7 +121,7 @@ pub(crate) fn open_kept(alloc: Global, settings: &Settings) -> Result<Kept, Allo
     let quarantined = Vec::with_capacity(alloc, usize::from(settings.references))?;
     Ok(Kept {
         journal,
-        table: Table {
+        table: KeptTable {
             alloc,
             rows: Vec::new(alloc),
             free,

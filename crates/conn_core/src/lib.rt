@@ -29,11 +29,11 @@ mod tests;
 mod wire_tests;
 
 pub use answers::{
-    Accepted, AskRefusal, CancelRefusal, FrameAnswer, FrameRefusal, LeaseAnswer, LeaseRefusal,
-    SendRefusal, Sending, SubmitRefusal, TakeRefusal, Ticked,
+    Accepted, AskRefusal, CancelRefusal, FrameAnswer, FrameRefusal, LeaseAnswer, SendRefusal,
+    Sending, SubmitRefusal, TakeRefusal,
 };
 pub use conn::ConnState;
 pub use entries::{Answer, Entry, EntryList, Event};
-pub use laws::table_by_places;
+pub use laws::{open_by_steps, table_by_places, table_by_turns};
 pub use rows::{Lease, Phase, Row};
 pub use settings::Settings;

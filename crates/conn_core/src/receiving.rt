@@ -1,10 +1,9 @@
-ghost use Rattle.std.specs.Prelude.{◌≡◌, ◌+◌, ◌<◌, ◌≤◌, ◌^◌, ◌-◌, Some, IfOk, OnOk, OnErr, vec_len, Ok, slice_index_or};
+ghost use Rattle.std.specs.Prelude.{◌≡◌, All, ◌+◌, ◌<◌, ◌≤◌, ◌^◌, ◌-◌, Some, IfOk, OnOk, OnErr, vec_len, Ok, sum_by};
 ghost use Rattle.std.specs.List.{find};
-ghost use Rattle.std.specs.Vec.{vec_capacity};
 ghost use Rattle.std.specs.VecDeque.{deque_len, deque_capacity};
-ghost use Rattle.conn_core.specs.Finds.{IsFirstAt, weight_of};
-ghost use Rattle.conn_core.specs.Rooms.{lists_of, references_kept, unasked};
-ghost use Rattle.conn_core.specs.Steps.{IsGiven, answer_of, apply_frame, arrived, ended_answer, received, refused_frame, table_or, without_row};
+ghost use Rattle.conn_core.specs.Rooms.{HasEndRoom, KeepsRoom, lists_of, references_kept, room_of};
+ghost use Rattle.conn_core.specs.SoundRows.{IsSoundRow};
+ghost use Rattle.conn_core.specs.Steps.{IsGivenOrNoMemory, answer_of, apply_frame, arrived, ended_answer, refused_frame, table_or, without_row};
 ghost use Rattle.conn_core.specs.Tables.{ended_row, is_reference, is_sent_with};
 
 use crate::answers::{FrameAnswer, FrameRefusal};
@@ -12,17 +11,16 @@ use crate::closing::close;
 use crate::finding::{place_quarantined, place_sent};
 use crate::lists::add_back;
 use crate::rows::{Phase, Row};
-use crate::tables::Table;
+use crate::tables::KeptTable;
 use std::alloc::AllocError;
 use wire_frames::{FrameWhy, Outcome, Reason, Reply, ReplyFault, Wire};
 
 /// Frees a quarantined reference, to which no row answers any more.
-fn settle(table: &mut Table, reference: u16) -> FrameAnswer
+fn settle(table: &mut KeptTable, reference: u16) -> FrameAnswer
     requires free { deque_len table.old.free + vec_len table.old.quarantined ≤ deque_capacity table.old.free }
     ensures answer { result ≡ (without_row (lists_of table.old) reference (find (is_reference reference) table.old.quarantined.items)).1 }
     ensures table { lists_of table.new ≡ (without_row (lists_of table.old) reference (find (is_reference reference) table.old.quarantined.items)).0 }
-    ensures free_room { deque_capacity table.old.free ≤ deque_capacity table.new.free }
-    ensures quarantine_room { vec_capacity table.old.quarantined ≤ vec_capacity table.new.quarantined }
+    ensures keeps { KeepsRoom (room_of table.old) (room_of table.new) }
 {
     match place_quarantined(&table.quarantined, reference) {
         None => FrameAnswer::Stray { reference },
@@ -46,18 +44,17 @@ fn end_row(row: &mut Row, outcome: Outcome) -> FrameAnswer
 
 /// What a frame that was read does.
 fn arrive<W: Wire>(
-    table: &mut Table,
+    table: &mut KeptTable,
     wire: &W,
     reply: &Reply<'_>,
 ) -> Result<FrameAnswer, AllocError>
-    requires free { deque_len table.old.free + vec_len table.old.quarantined + weight_of references_kept table.old.rows.items ≤ deque_capacity table.old.free }
-    requires asks { weight_of (unasked (W.meaning wire.now).admits) table.old.rows.items ≡ 0 }
+    requires free { deque_len table.old.free + vec_len table.old.quarantined + sum_by references_kept table.old.rows.items ≤ deque_capacity table.old.free }
+    requires sound { All (IsSoundRow (W.meaning wire.now)) table.old.rows.items }
     requires read { (W.meaning wire.now).reading_of reply.now.frame.now ≡ Ok reply.now.reading }
     ensures answer { IfOk result (λ answer. answer ≡ (arrived (W.meaning wire.now) (lists_of table.old) reply.now.reference reply.now.reading (find (is_sent_with reply.now.reference) table.old.rows.items)).1) }
     ensures table { OnOk result (lists_of table.new ≡ (arrived (W.meaning wire.now) (lists_of table.old) reply.now.reference reply.now.reading (find (is_sent_with reply.now.reference) table.old.rows.items)).0) }
     ensures stays { OnErr result (lists_of table.new ≡ lists_of table.old) }
-    ensures free_room { deque_capacity table.old.free ≤ deque_capacity table.new.free }
-    ensures quarantine_room { vec_capacity table.old.quarantined ≤ vec_capacity table.new.quarantined }
+    ensures keeps { KeepsRoom (room_of table.old) (room_of table.new) }
 {
     match place_sent(&table.rows, reply.reference) {
         None => Ok(settle(table, reply.reference)),
@@ -72,14 +69,12 @@ fn arrive<W: Wire>(
 }
 
 /// Closes the table by a frame that can't be read.
-fn refuse(table: &mut Table, why: FrameWhy) -> FrameAnswer
-    requires free { deque_len table.old.free + weight_of references_kept table.old.rows.items ≤ deque_capacity table.old.free }
-    requires quarantined { vec_len table.old.quarantined + weight_of references_kept table.old.rows.items ≤ vec_capacity table.old.quarantined }
+fn refuse(table: &mut KeptTable, why: FrameWhy) -> FrameAnswer
+    requires ending { HasEndRoom (room_of table.old) table.old.rows.items }
     requires frames { table.old.frames_taken < 2 ^ 64 - 1 }
     ensures answer { result ≡ (refused_frame (lists_of table.old) why).1 }
     ensures table { lists_of table.new ≡ (refused_frame (lists_of table.old) why).0 }
-    ensures free_room { deque_capacity table.old.free ≤ deque_capacity table.new.free }
-    ensures quarantine_room { vec_capacity table.old.quarantined ≤ vec_capacity table.new.quarantined }
+    ensures keeps { KeepsRoom (room_of table.old) (room_of table.new) }
 {
     let index = table.frames_taken;
     table.frames_taken += 1;
@@ -89,19 +84,18 @@ fn refuse(table: &mut Table, why: FrameWhy) -> FrameAnswer
 
 /// Takes a frame. Want of memory changes nothing.
 pub(crate) fn receive<W: Wire>(
-    table: &mut Table,
+    table: &mut KeptTable,
     wire: &W,
     bytes: &[u8],
 ) -> Result<FrameAnswer, FrameRefusal>
-    requires free { deque_len table.old.free + vec_len table.old.quarantined + weight_of references_kept table.old.rows.items ≤ deque_capacity table.old.free }
-    requires quarantined { vec_len table.old.quarantined + weight_of references_kept table.old.rows.items ≤ vec_capacity table.old.quarantined }
-    requires asks { weight_of (unasked (W.meaning wire.now).admits) table.old.rows.items ≡ 0 }
+    requires free { deque_len table.old.free + vec_len table.old.quarantined + sum_by references_kept table.old.rows.items ≤ deque_capacity table.old.free }
+    requires ending { HasEndRoom (room_of table.old) table.old.rows.items }
+    requires sound { All (IsSoundRow (W.meaning wire.now)) table.old.rows.items }
     requires frames { table.old.frames_taken < 2 ^ 64 - 1 }
-    ensures answer { IsGiven FrameRefusal.NoMemory result (answer_of (apply_frame (W.meaning wire.now) (lists_of table.old) bytes.now)) }
+    ensures answer { IsGivenOrNoMemory FrameRefusal.NoMemory result (answer_of (apply_frame (W.meaning wire.now) (lists_of table.old) bytes.now)) }
     ensures table { OnOk result (lists_of table.new ≡ table_or (lists_of table.old) (apply_frame (W.meaning wire.now) (lists_of table.old) bytes.now)) }
     ensures stays { OnErr result (lists_of table.new ≡ lists_of table.old) }
-    ensures free_room { deque_capacity table.old.free ≤ deque_capacity table.new.free }
-    ensures quarantine_room { vec_capacity table.old.quarantined ≤ vec_capacity table.new.quarantined }
+    ensures keeps { KeepsRoom (room_of table.old) (room_of table.new) }
 {
     if let Some(reason) = table.closed {
         return Err(FrameRefusal::Closed(reason));

@@ -3,7 +3,7 @@ ghost use Rattle.std.specs.Vec.{vec_capacity};
 ghost use Rattle.conn_core.specs.Requests.{IsDraftOf, request_of};
 ghost use Rattle.conn_core.specs.Tables.{IsSettings};
 ghost use Rattle.conn_core.specs.Rooms.{HasTurnRoom, IsKept, Stays, TurnsAs, capacities_of, lists_of};
-ghost use Rattle.conn_core.specs.Steps.{IsGiven, accepted_of, answer_of, next_reference, prepared, started_answer, submit};
+ghost use Rattle.conn_core.specs.Steps.{IsGivenOrNoMemory, accepted_of, answer_of, next_reference, prepared, started_answer, submit};
 ghost use Rattle.conn_core.specs.declared.entries.Event.TheVariants as events;
 
 use crate::answers::{Accepted, SubmitRefusal};
@@ -11,16 +11,16 @@ use crate::drafts::{Draft, Frames, write_frames};
 use crate::entries::{Answer, Entry, Event};
 use crate::kept::{Kept, reserve_turn, write_down};
 use crate::settings::Settings;
-use crate::submitting::{Request, check_place, peek_reference, start};
-use crate::tables::Table;
+use crate::submitting::{Handed, check_place, peek_reference, start};
+use crate::tables::KeptTable;
 use std::alloc::AllocError;
 use wire_frames::Wire;
 
 /// The frames of a request that its caller may hand in, from the draft of its ask.
 fn take_frames<W: Wire>(
     wire: &W,
-    table: &Table,
-    request: &Request,
+    table: &KeptTable,
+    request: &Handed,
     draft: Draft,
 ) -> Result<Frames, SubmitRefusal>
     requires admitted { IsTrue ((W.meaning wire.now).admits request.now.ask) }
@@ -50,7 +50,7 @@ fn reserve_request(kept: &mut Kept, settings: &Settings) -> Result<(), AllocErro
     ensures turn { OnOk result (HasTurnRoom (vec_len kept.new.journal) (capacities_of kept.new) (lists_of kept.new.table)) }
     ensures rows { OnOk result (vec_len kept.new.table.rows < vec_capacity kept.new.table.rows) }
 {
-    reserve_turn(kept)?;
+    reserve_turn(kept, settings)?;
     kept.table.rows.reserve(1)
 }
 
@@ -59,12 +59,12 @@ pub(crate) fn submit<W: Wire>(
     kept: &mut Kept,
     wire: &W,
     settings: &Settings,
-    request: Request,
+    request: Handed,
 ) -> Result<Accepted, SubmitRefusal>
     requires settings { IsSettings settings.now }
     requires kept { IsKept settings.now kept.old }
     requires admitted { IsTrue ((W.meaning wire.now).admits request.ask) }
-    ensures answer { IsGiven SubmitRefusal.NoMemory result (accepted_of (answer_of (submit (W.meaning wire.now) (lists_of kept.old.table) (request_of request)))) }
+    ensures answer { IsGivenOrNoMemory SubmitRefusal.NoMemory result (accepted_of (answer_of (submit (W.meaning wire.now) (lists_of kept.old.table) (request_of request)))) }
     ensures turned { OnOk result (TurnsAs settings.now kept.old.journal.items (submit (W.meaning wire.now) (lists_of kept.old.table) (request_of request)) (λ started. record { actor = request.actor; event = events.Submit request.lease request.ask request.timeout_ms request.moment; answer = started_answer started }) kept.new.journal.items (lists_of kept.new.table)) }
     ensures stays { OnErr result (Stays kept.old.journal.items (lists_of kept.old.table) kept.new.journal.items (lists_of kept.new.table)) }
     ensures kept { IsKept settings.now kept.new }

@@ -9,7 +9,7 @@ pub enum Phase {
     Ended(Outcome),
 }
 
-/// A request that the table keeps.
+/// A request that the table keeps. Its deadline is a moment in milliseconds.
 #[derive(Debug, Drop)]
 pub struct Row {
     pub id: u64,
@@ -21,7 +21,7 @@ pub struct Row {
     pub phase: Phase,
 }
 
-/// A lease that is held or waited for.
+/// A lease that is held or waited for, until a deadline in milliseconds.
 #[derive(Clone, Copy, Debug, PartialEq, Eq)]
 pub struct Lease {
     pub number: u64,

@@ -8,7 +8,7 @@ use crate::answers::{SendRefusal, Sending};
 use crate::finding::{count_sent, place_queued};
 use crate::rows::{Phase, Row};
 use crate::settings::Settings;
-use crate::tables::Table;
+use crate::tables::KeptTable;
 use std::mem::replace;
 
 /// Hands out the frame of a queued row, which is sent from then on.
@@ -30,7 +30,7 @@ fn hand_out(row: &mut Row) -> Sending
 }
 
 /// Hands out the next frame to write.
-pub(crate) fn send(table: &mut Table, settings: &Settings) -> Result<Sending, SendRefusal>
+pub(crate) fn send(table: &mut KeptTable, settings: &Settings) -> Result<Sending, SendRefusal>
     ensures answer { result ≡ answer_of (take_send settings.now (lists_of table.old)) }
     ensures table { lists_of table.new ≡ table_or (lists_of table.old) (take_send settings.now (lists_of table.old)) }
     ensures free { table.new.free ≡ table.old.free }

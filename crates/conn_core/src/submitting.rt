@@ -1,22 +1,21 @@
-ghost use Rattle.std.specs.Prelude.{◌≡◌, ◌<◌, ◌^◌, ◌-◌, ◌≤◌, IfErr, OnOk, vec_len, Ok, Err};
+ghost use Rattle.std.specs.Prelude.{◌≡◌, ◌<◌, ◌^◌, ◌-◌, IfErr, OnOk, vec_len, Ok, Err};
 ghost use Rattle.std.specs.Vec.{vec_capacity};
-ghost use Rattle.std.specs.VecDeque.{deque_capacity};
 ghost use Rattle.conn_core.specs.Requests.{request_of};
-ghost use Rattle.conn_core.specs.Rooms.{lists_of};
-ghost use Rattle.conn_core.specs.Steps.{accepted_of, answer_of, next_reference, place_for, table_or, with_reference};
+ghost use Rattle.conn_core.specs.Rooms.{KeepsRoom, lists_of, room_of};
+ghost use Rattle.conn_core.specs.Steps.{accepted_of, answer_of, next_reference, reference_to_try, table_or, with_reference};
 
 use crate::answers::{Accepted, SubmitRefusal};
-use crate::finding::check_holds;
+use crate::finding::holds;
 use crate::lists::add;
 use crate::rows::{Phase, Row};
-use crate::tables::{Table, find_deadline};
+use crate::tables::{KeptTable, MAX_ROWS, find_deadline};
 use node_tree::ByteList;
 use std::collections::VecDeque;
 use wire_frames::Ask;
 
 /// What a caller hands in.
 #[derive(Debug, Drop)]
-pub(crate) struct Request {
+pub(crate) struct Handed {
     pub actor: u32,
     pub lease: u64,
     pub ask: Ask,
@@ -35,17 +34,17 @@ pub(crate) fn peek_reference(free: &VecDeque<u16>) -> u16
 }
 
 /// Whether the caller may hand in a request, as the table stands.
-pub(crate) fn check_place(table: &Table, actor: u32, lease: u64) -> Result<(), SubmitRefusal>
-    ensures ok { OnOk result (place_for (lists_of table.now) actor lease ≡ Ok (next_reference table.now.free.items)) }
-    ensures err { IfErr result (λ refusal. place_for (lists_of table.now) actor lease ≡ Err refusal) }
+pub(crate) fn check_place(table: &KeptTable, actor: u32, lease: u64) -> Result<(), SubmitRefusal>
+    ensures ok { OnOk result (reference_to_try (lists_of table.now) actor lease ≡ Ok (next_reference table.now.free.items)) }
+    ensures err { IfErr result (λ refusal. reference_to_try (lists_of table.now) actor lease ≡ Err refusal) }
 {
     if let Some(reason) = table.closed {
         return Err(SubmitRefusal::Closed(reason));
     }
-    if !check_holds(table.held.as_slice(), actor, lease) {
+    if !holds(table.held.as_slice(), actor, lease) {
         return Err(SubmitRefusal::NoLease);
     }
-    if table.rows.len() >= 1024 {
+    if table.rows.len() >= MAX_ROWS {
         return Err(SubmitRefusal::TableFull);
     }
     Ok(())
@@ -53,22 +52,21 @@ pub(crate) fn check_place(table: &Table, actor: u32, lease: u64) -> Result<(), S
 
 /// Queues a request under the first free reference.
 pub(crate) fn start(
-    table: &mut Table,
-    request: Request,
+    table: &mut KeptTable,
+    request: Handed,
     frame: ByteList,
 ) -> Result<Accepted, SubmitRefusal>
     requires rows { vec_len table.old.rows < vec_capacity table.old.rows }
     requires requests { table.old.requests_drawn < 2 ^ 64 - 1 }
     ensures answer { result ≡ accepted_of (answer_of (with_reference (lists_of table.old) (request_of request) frame table.old.free.items)) }
     ensures table { lists_of table.new ≡ table_or (lists_of table.old) (with_reference (lists_of table.old) (request_of request) frame table.old.free.items) }
-    ensures free_room { deque_capacity table.old.free ≤ deque_capacity table.new.free }
-    ensures quarantine_room { vec_capacity table.old.quarantined ≤ vec_capacity table.new.quarantined }
+    ensures keeps { KeepsRoom (room_of table.old) (room_of table.new) }
 {
     let reference = match table.free.pop_front() {
         None => return Err(SubmitRefusal::NoReference),
         Some(reference) => reference,
     };
-    let Request {
+    let Handed {
         actor,
         lease,
         ask,

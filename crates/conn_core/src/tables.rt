@@ -1,7 +1,5 @@
-ghost use Rattle.std.specs.Prelude.{◌≡◌, ◌<◌, ◌≤◌, ◌-◌, ◌+◌, ◌^◌, vec_len, IfOk, min};
-ghost use Rattle.std.specs.Vec.{vec_capacity};
-ghost use Rattle.std.specs.VecDeque.{deque_len, deque_capacity};
-ghost use Rattle.conn_core.specs.Tables.{deadline_of, opening};
+ghost use Rattle.std.specs.Prelude.{◌≡◌, ◌<◌, ◌-◌};
+ghost use Rattle.conn_core.specs.Tables.{deadline_of};
 
 use crate::rows::{Lease, Row};
 use crate::settings::Settings;
@@ -9,10 +7,16 @@ use std::alloc::{AllocError, Global};
 use std::collections::VecDeque;
 use wire_frames::Reason;
 
+/// How many rows are kept at most, ended ones too.
+pub(crate) const MAX_ROWS: usize = 1024;
+
+/// How many leases are waited for at most.
+pub(crate) const MAX_WAITERS: usize = 64;
+
 /// The table of a connection as lists. The last three count what was
 /// drawn and taken so far.
 #[derive(Drop)]
-pub(crate) struct Table {
+pub(crate) struct KeptTable {
     pub alloc: Global,
     pub rows: Vec<Row>,
     pub free: VecDeque<u16>,

@@ -164,7 +164,7 @@ fn a_late_reply_completes_nothing(rt: HostRuntime) -> Result<(), Fail> {
 }
 
 #[test]
-fn a_reply_before_its_cancellation(rt: HostRuntime) -> Result<(), Fail> {
+fn an_answered_request_cannot_be_cancelled(rt: HostRuntime) -> Result<(), Fail> {
     let lines = [
         (SUBMIT, Said::Started(1, 1)),
         (Line::Send, Said::Sent(1, 1)),
@@ -179,7 +179,7 @@ fn a_reply_before_its_cancellation(rt: HostRuntime) -> Result<(), Fail> {
 }
 
 #[test]
-fn no_reference_until_the_late_reply(rt: HostRuntime) -> Result<(), Fail> {
+fn a_late_reply_frees_its_reference(rt: HostRuntime) -> Result<(), Fail> {
     let lines = [
         (SUBMIT, Said::Started(1, 1)),
         (Line::Send, Said::Sent(1, 1)),
@@ -203,7 +203,7 @@ fn an_unsent_request_gives_its_reference_back(rt: HostRuntime) -> Result<(), Fai
 }
 
 #[test]
-fn a_stray_reply_before_the_sending(rt: HostRuntime) -> Result<(), Fail> {
+fn a_reply_before_the_sending_is_stray(rt: HostRuntime) -> Result<(), Fail> {
     let lines = [
         (SUBMIT, Said::Started(1, 1)),
         (REPLY, Said::Came(FrameAnswer::Stray { reference: 1 })),
@@ -214,7 +214,7 @@ fn a_stray_reply_before_the_sending(rt: HostRuntime) -> Result<(), Fail> {
 }
 
 #[test]
-fn a_lease_that_is_not_held(rt: HostRuntime) -> Result<(), Fail> {
+fn a_request_needs_a_held_lease(rt: HostRuntime) -> Result<(), Fail> {
     let lines = [
         (
             Line::Submit { lease: 2 },
@@ -281,8 +281,6 @@ fn a_full_journal_closes_the_table(rt: HostRuntime) -> Result<(), Fail> {
 fn at_most_64_wait(rt: HostRuntime) -> Result<(), Fail> {
     let settings = Settings {
         journal: 256,
-        lease_ms: 100,
-        wait_ms: 50,
         ..SETTINGS
     };
     let mut state = ConnState::new(rt.alloc(), RawWire, settings)?;
@@ -349,7 +347,7 @@ fn a_frame_that_cannot_be_read_closes_the_table(rt: HostRuntime) -> Result<(), F
 }
 
 #[test]
-fn a_full_window_and_another_caller(rt: HostRuntime) -> Result<(), Fail> {
+fn a_full_window_hands_out_nothing(rt: HostRuntime) -> Result<(), Fail> {
     let alloc = rt.alloc();
     let settings = Settings {
         window: 1,

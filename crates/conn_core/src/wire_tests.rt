@@ -43,6 +43,7 @@ impl Wire for BareWire {
     ghost use Rattle.wire_frames.specs.declared.ends.EndKind.TheVariants.{Written};
     ghost use Rattle.wire_frames.specs.declared.ends.FrameWhy.TheVariants.{NotReply};
     ghost use Rattle.wire_frames.specs.declared.wires.LengthRule.TheVariants.{Raw};
+    ghost use Rattle.conn_core.specs.BareWires.{bare_sized};
 
     ghost meaning = { λ _. record {
       rule = Raw;
@@ -112,6 +113,8 @@ impl Wire for BareWire {
     }
 
     ghost replies = { λ wire ask reading admitted. refl };
+
+    ghost sized = { λ wire ask reference frame admitted is. bare_sized _ _ (asked_payload ask) frame is };
 }
 
 const UNWRITABLE: SubmitRefusal = SubmitRefusal::Unwritable {
@@ -206,7 +209,7 @@ fn check_closed(
 }
 
 #[test]
-fn a_request_that_is_written(rt: HostRuntime) -> Result<(), Fail> {
+fn a_written_request_ends_and_is_collected(rt: HostRuntime) -> Result<(), Fail> {
     let alloc = rt.alloc();
     let mut state = open(&rt, alloc, 2)?;
     check_accepted(&rt, alloc, &mut state, &[9], 1, 1)?;
@@ -227,7 +230,7 @@ fn a_request_that_is_written(rt: HostRuntime) -> Result<(), Fail> {
 }
 
 #[test]
-fn an_ask_that_cannot_be_written(rt: HostRuntime) -> Result<(), Fail> {
+fn an_ask_that_cannot_be_written_is_refused(rt: HostRuntime) -> Result<(), Fail> {
     let alloc = rt.alloc();
     let mut state = open(&rt, alloc, 2)?;
     check_refused(&rt, alloc, &mut state, 1, &[], UNWRITABLE)?;
@@ -239,7 +242,7 @@ fn an_ask_that_cannot_be_written(rt: HostRuntime) -> Result<(), Fail> {
 }
 
 #[test]
-fn an_ask_that_is_too_large(rt: HostRuntime) -> Result<(), Fail> {
+fn an_ask_above_the_limit_is_refused(rt: HostRuntime) -> Result<(), Fail> {
     let alloc = rt.alloc();
     let mut state = open(&rt, alloc, 2)?;
     check_refused(&rt, alloc, &mut state, 1, &[9; 11], TOO_LARGE)?;
@@ -256,7 +259,7 @@ fn an_ask_that_is_too_large(rt: HostRuntime) -> Result<(), Fail> {
 }
 
 #[test]
-fn an_ask_without_a_free_reference(rt: HostRuntime) -> Result<(), Fail> {
+fn an_ask_without_a_free_reference_is_refused(rt: HostRuntime) -> Result<(), Fail> {
     let alloc = rt.alloc();
     let mut state = open(&rt, alloc, 1)?;
     check_accepted(&rt, alloc, &mut state, &[9], 1, 1)?;
@@ -270,7 +273,7 @@ fn an_ask_without_a_free_reference(rt: HostRuntime) -> Result<(), Fail> {
 }
 
 #[test]
-fn an_ask_to_a_full_table(rt: HostRuntime) -> Result<(), Fail> {
+fn an_ask_to_a_full_table_is_refused(rt: HostRuntime) -> Result<(), Fail> {
     let alloc = rt.alloc();
     let mut state = open(&rt, alloc, 1024)?;
     for id in 1u16..1025 {

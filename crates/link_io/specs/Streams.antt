@@ -1,5 +1,5 @@
 -- What a source gave and has left, and what a sink holds, where they tell it.
-use Rattle.std.specs.Prelude.{ℕ, ◌≡◌, ◌≤◌, List, [], ◌++◌, length, take, drop, Option, Some, None, IfSome}
+use Rattle.std.specs.Prelude.{ℕ, Bool, ◌≡◌, ◌≤◌, List, [], ◌++◌, length, take, drop, Option, Some, None, IfSome}
 use Rattle.std.proofs.Common.{refl, sym, ◌∙◌, ap, append_assoc, append-nil, take-add, take_all, length-take-le}
 use Rattle.std.proofs.lemmas.List.{length-append, drop-drop, take-append-drop}
 
@@ -20,11 +20,16 @@ pub record SinkSeen : Type 0 where
   pub held : Option (List ℕ)
   pub faults : ℕ
 
--- What a shelf shows at one moment: the bytes of the file of each name, where it tells them, and how often a call that gave
--- this name has failed.
+-- What a shelf shows at one moment: the bytes of the file of each name, where it tells them; whether it tells that there is no
+-- file of this name; and how often a call that gave this name has failed.
 pub record ShelfSeen : Type 0 where
   pub file : List ℕ → Option (List ℕ)
+  pub lacks : List ℕ → Bool
   pub faults : List ℕ → ℕ
+
+-- no file has changed, as the shelf tells them
+abbrev pub LeavesFiles : (before after : ShelfSeen) → Type 0
+LeavesFiles before after = (name : List ℕ) → (after.file name ≡ before.file name) × (after.lacks name ≡ before.lacks name)
 
 -- the tape after these bytes were given; a source that doesn't tell goes on so
 abbrev pub after_giving : List ℕ → Option Tape → Option Tape

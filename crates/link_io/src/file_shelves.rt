@@ -79,9 +79,13 @@ impl<R: Files> FileShelf<R> {
 }
 
 impl<R: Files> Shelf for FileShelf<R> {
-    ghost seen = { λ faults. record { file = λ _. None; faults = λ _. faults } };
+    ghost use Rattle.std.specs.Prelude.{false, refl};
+
+    ghost seen = { λ faults. record { file = λ _. None; lacks = λ _. false; faults = λ _. faults } };
 
     ghost counts_with = { λ _ _. Unit {0} };
+
+    ghost share_a_count = { λ _ _ _ _. refl };
 
     fn read_at(&mut self, name: &str, from: u64, to: &mut [u8]) -> Result<usize, Failed> {
         match self.try_read(name, from, to) {

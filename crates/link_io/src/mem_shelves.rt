@@ -76,9 +76,18 @@ impl MemShelf {
 }
 
 impl Shelf for MemShelf {
-    ghost seen = { λ shelf. record { file = file_of shelf.files; faults = faults_of shelf } };
+    ghost use Rattle.std.specs.Prelude.{ℕ, is_none};
+    ghost use Rattle.std.proofs.Common.{ap};
+
+    ghost seen = { λ shelf. record {
+      file = file_of shelf.files;
+      lacks = λ name. is_none (file_of shelf.files name);
+      faults = faults_of shelf;
+    } };
 
     ghost counts_with = { λ one other. place_of one ≡ place_of other };
+
+    ghost share_a_count = { λ shelf one other together. ap (λ (place : ℕ). slice_index shelf.counts place) together };
 
     fn read_at(&mut self, name: &str, from: u64, to: &mut [u8]) -> Result<usize, Failed>
         requires { 0 < length to.old }

@@ -6,7 +6,8 @@ use crate::traits::{Failed, Sink, Source};
 use std::io::{Read, Write};
 use std::marker::Model;
 
-/// A reader of std as a source. It tells nothing of its bytes, and counts its errors and its ends.
+/// A reader of std as a source. It tells nothing of its bytes, and counts its errors and its ends. A read that a signal
+/// interrupted is made again, and is no error.
 #[derive(Drop)]
 pub struct StdSource<R> {
     reader: R,
@@ -67,7 +68,7 @@ impl<R: Read> Source for StdSource<R> {
 }
 
 /// A writer of std as a sink. It tells nothing of its bytes, and counts its errors and the writes that took
-/// no byte.
+/// no byte. A call that a signal interrupted is made again, and is no error.
 #[derive(Drop)]
 pub struct StdSink<W> {
     writer: W,

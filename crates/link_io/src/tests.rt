@@ -1,5 +1,5 @@
 //! Each object once through a function that knows its trait alone, and once failing in mid-stream.
-ghost use Rattle.std.specs.Prelude.{◌≡◌, ℕ, List, take, IfOk, OnOk, IfSome};
+ghost use Rattle.std.specs.Prelude.{◌≡◌, ℕ, List, IfOk, OnOk, IfSome};
 ghost use Rattle.link_io.specs.Counts.{Rose};
 ghost use Rattle.link_io.specs.Streams.{after_giving, AreAllLeft, after_taking};
 

@@ -69,9 +69,6 @@ impl StringList {
         ensures text { IfSome result (λ text. slice_get self.now at ≡ Some text.now) }
         ensures none { IsNone result ↔ (length self.now ≤ at) }
     {
-        match self.items.get(at) {
-            Some(text) => Some(text.as_str()),
-            None => None,
-        }
+        self.items.get(at).map(String::as_str)
     }
 }

@@ -1,6 +1,6 @@
-ghost use Rattle.std.specs.Prelude.{◌≡◌, ◌<◌, ◌≤◌, ◌↔◌, ℕ, List, length, take, drop, Ok, IfOk, OnOk, OnErr, IfSome};
+ghost use Rattle.std.specs.Prelude.{◌≡◌, ◌<◌, ◌≤◌, ℕ, List, length, take, drop, Ok, IfOk, OnOk, OnErr, IfSome, IsErr, IsTrue};
 ghost use Rattle.link_io.specs.Counts.{Rose};
-ghost use Rattle.link_io.specs.Streams.{SourceSeen, SinkSeen, ShelfSeen, after_giving, AreNext, IsAtEnd, after_taking};
+ghost use Rattle.link_io.specs.Streams.{SourceSeen, SinkSeen, ShelfSeen, LeavesFiles, after_giving, AreNext, IsAtEnd, after_taking};
 
 /// A stream or a file failed.
 #[derive(Clone, Copy, Debug, PartialEq, Eq)]
@@ -11,8 +11,8 @@ pub trait Source {
     /// What it shows: its bytes, if it tells them, and its counts of ends and of faults.
     ghost seen: { Self → SourceSeen };
 
-    /// Takes bytes to the front of `to` and answers how many; 0 is the end. After a fault `to` may hold
-    /// anything.
+    /// Takes bytes to the front of `to` and answers how many; 0 is the end. Behind these bytes, and after a fault, `to` may
+    /// hold anything.
     fn read(&mut self, to: &mut [u8]) -> Result<usize, Failed>
         requires { 0 < length to.old }
         ensures count { IfOk result (λ n. n ≤ length to.new) }
@@ -55,21 +55,25 @@ pub trait Sink {
 
 /// Files that are read by name.
 pub trait Shelf {
-    /// What it shows: its files, if it tells them, and a count of faults for each name.
+    /// What it shows: its files and names without a file, if it tells them, and a count of faults for each name.
     ghost seen: { Self → ShelfSeen };
 
     /// Two names that are counted together, where a shelf keeps one number for several.
     ghost counts_with: { List ℕ → List ℕ → Type 0 };
 
-    /// Takes the bytes of the named file from the byte `from` on to the front of `to`, and answers how
-    /// many; 0 comes only at or past the file's end. After a fault `to` may hold anything.
+    /// Names that are counted together share one count.
+    ghost share_a_count: { (shelf : Self) (one other : List ℕ) → counts_with one other → (seen shelf).faults one ≡ (seen shelf).faults other };
+
+    /// Takes the bytes of the named file from the byte `from` on to the front of `to`, and answers how many; 0 comes only at
+    /// or past the file's end. Behind these bytes, and after a fault, `to` may hold anything.
     fn read_at(&mut self, name: &str, from: u64, to: &mut [u8]) -> Result<usize, Failed>
         requires { 0 < length to.old }
         ensures count { IfOk result (λ n. n ≤ length to.new) }
         ensures content { IfOk result (λ n.
             IfSome ((seen self.old).file name.now) (λ bytes. take n to.new ≡ take n (drop from bytes))) }
         ensures at_end { result ≡ Ok 0 → IfSome ((seen self.old).file name.now) (λ bytes. length bytes ≤ from) }
-        ensures files { (other : List ℕ) → (seen self.new).file other ≡ (seen self.old).file other }
+        ensures lacking { IsTrue ((seen self.old).lacks name.now) → IsErr result }
+        ensures files { LeavesFiles (seen self.old) (seen self.new) }
         ensures no_fault { OnOk result ((other : List ℕ) → (seen self.new).faults other ≡ (seen self.old).faults other) }
         ensures failed { OnErr result (Rose ((seen self.old).faults name.now) ((seen self.new).faults name.now)) }
         ensures others { (other : List ℕ) → (counts_with name.now other → ⊥)

@@ -56,15 +56,15 @@ end_of_none d def args at (TooFew left) end = absurd (end.0 refl)
 end_of_none d def args at (Refused bit (Value why)) end = absurd (end.0 refl)
 end_of_none d def args at (Refused bit Unaligned) end = absurd (end.0 refl)
 
-some_bits : (bit : Bool) (bits : List Bool) → bit ∷ bits ≢ []
-some_bits bit bits h = cc
+pub not_nil : {A : Type 0} (x : A) (xs : List A) → x ∷ xs ≢ []
+not_nil x xs h = cc
 
 one_ending : (d : Description) (def : ℕ) (args : List ℤ) (at : ℕ) (bits : List Bool) (one other : Ending) → Ends d def args at bits one → Ends d def args at bits other → one ≡ other
 one_ending d def args at [] one other h k = end_of_none d def args at one h ∙ sym (end_of_none d def args at other k)
 one_ending d def args at (bit ∷ bits) one other h k =
     let all = bit ∷ bits in
-    let by = ends_by d def args at all one (some_bits bit bits) h in
-    let so = ends_by d def args at all other (some_bits bit bits) k in
+    let by = ends_by d def args at all one (not_nil bit bits) h in
+    let so = ends_by d def args at all other (not_nil bit bits) k in
     same_ending at all by.0 one other by.2
     (subst (λ (outcome : Result Reading Fault). EndsBy at all outcome other) (one_outcome d def args all so.0 by.0 so.1 by.1) so.2)
 

@@ -1,6 +1,7 @@
 -- The descriptions that can be read so far: a type without parameters whose fields are unsigned numbers of whole
--- bytes.
-use Rattle.std.specs.Prelude.{ℕ, ℤ, ◌≡◌, ◌⊎◌, List, [], ◌∷◌, Some, None, slice_get}
+-- bytes, in any order of bytes.
+use Rattle.std.specs.Prelude.{ℕ, ℤ, ◌≡◌, ◌⊎◌, List, [], Some, slice_get}
+use Rattle.std.specs.List.{AllByRecursion}
 use Rattle.mspec_tree.specs.declared.words.Simple.TheVariants.{Uint}
 use Rattle.mspec_tree.specs.declared.exprs.Ref.TheVariants.{Plain}
 use Rattle.mspec_tree.specs.declared.fields.Field.{Field, out-Field}
@@ -20,13 +21,12 @@ abbrev pub HasWidth : Body-F Body Case Field → ℕ → Type 0
 HasWidth (Simple (Plain (Uint written))) width = (written ≡ width) × IsWidth width
 HasWidth other width = ⊥
 
--- a simple field of an unsigned number of whole bytes, with no order of its own
+-- a simple field of an unsigned number of whole bytes
 abbrev pub IsPlainField : Field → Type 0
-IsPlainField field = ((out-Field field).order ≡ None) × ((width : ℕ) × HasWidth (out-Body (out-Field field).body) width)
+IsPlainField field = (width : ℕ) × HasWidth (out-Body (out-Field field).body) width
 
 abbrev pub ArePlain : List Field → Type 0
-ArePlain [] = Unit {0}
-ArePlain (field ∷ fields) = IsPlainField field × ArePlain fields
+ArePlain fields = AllByRecursion IsPlainField fields
 
 abbrev pub HasPlainFields : DefBody → Type 0
 HasPlainFields (PlainFields fields) = ArePlain fields
@@ -39,5 +39,4 @@ CanRead d def args =
     × (slice_get d.defs def ≡ Some found)
     × (found.params ≡ [])
     × (args ≡ [])
-    × (found.order ≡ None)
     × HasPlainFields found.body

@@ -31,3 +31,9 @@ pub fn one_stream()
     ensures { (d : Description) (def : ℕ) (args : List ℤ) (bytes : List ℕ) (one other : List Reading) (end last : Ending)
         → Stream d def args bytes one end → Stream d def args bytes other last → (one ≡ other) × (end ≡ last) }
 {}
+
+/// Bytes have a list of readings, and an ending, by each description that can be read.
+pub fn some_stream()
+    ensures { (d : Description) (def : ℕ) (args : List ℤ) (bytes : List ℕ)
+        → CanRead d def args → (readings : List Reading) × (ending : Ending) × Stream d def args bytes readings ending }
+{}

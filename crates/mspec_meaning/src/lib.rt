@@ -8,6 +8,6 @@ mod reading;
 #[cfg(test)]
 mod tests;
 
-pub use laws::{more_bits, one_reading, one_stream, some_reading};
+pub use laws::{more_bits, one_reading, one_stream, some_reading, some_stream};
 pub use readable::can_read;
 pub use reading::read_plain;

@@ -1,16 +1,15 @@
-ghost use Rattle.std.specs.Prelude.{◌≡◌, ◌≤◌, ◌*◌, pos, List, [], IfOk, IfErr, Ok, Err, None, Some, slice_get};
+ghost use Rattle.std.specs.Prelude.{◌≡◌, ◌*◌, pos, List, IfOk, IfErr, Ok, Err};
 ghost use Rattle.node_tree.specs.Bits.{bits_of};
 ghost use Rattle.node_tree.specs.declared.nodes.Node.TheVariants.{Num};
 ghost use Rattle.mspec_tree.specs.declared.fields.Body.{out-Body};
 ghost use Rattle.mspec_tree.specs.declared.fields.Field.{out-Field};
 ghost use Rattle.mspec_tree.specs.declared.defs.DefBody.TheVariants.{Plain as PlainFields};
-ghost use Rattle.mspec_tree.specs.declared.defs.Def.{Def};
-ghost use Rattle.mspec_meaning.specs.Plain.{IsPlainField, HasWidth, ArePlain, CanRead};
+ghost use Rattle.mspec_meaning.specs.Plain.{IsPlainField, HasWidth, ArePlain, HasPlainFields, CanRead};
 ghost use Rattle.mspec_meaning.specs.Reads.{Reads, FieldsRead, Part, group_of};
 ghost use Rattle.mspec_meaning.specs.Faults.{OfFault};
 
-use crate::numbers::number_at;
-use mspec_tree::{Body, DefBody, Description, Field, Ref, Simple};
+use crate::numbers::{number_at, order_of};
+use mspec_tree::{Body, ByteOrder, DefBody, Description, Field, Ref, Simple};
 use node_tree::{Node, NodeList, ReadFault, Reading, Span, SpanList};
 use std::alloc::Global;
 
@@ -24,17 +23,14 @@ fn width_of(field: &Field) -> u8
     }
 }
 
-fn fields_of(d: &Description, def: u16) -> &[Field]
-    requires { CanRead d.now def [] }
-    ensures fields { (found : Def) × (slice_get d.now.defs def ≡ Some found) × (found.body ≡ PlainFields result.now) × (found.order ≡ None) }
+fn fields_of(body: &DefBody) -> &[Field]
+    requires { HasPlainFields body.now }
+    ensures fields { body.now ≡ PlainFields result.now }
     ensures plain { ArePlain result.now }
 {
-    match d.defs.get(usize::from(def)) {
-        Some(found) => match &found.body {
-            DefBody::Plain(fields) => fields.as_slice(),
-            _ => unreachable!(),
-        },
-        None => unreachable!(),
+    match body {
+        DefBody::Plain(fields) => fields.as_slice(),
+        _ => unreachable!(),
     }
 }
 
@@ -44,13 +40,18 @@ fn number_node(number: u64) -> Node
     Node::Num(i128::from(number))
 }
 
-/// Reads fields one after another from the first bit of the bytes.
-fn read_fields(alloc: Global, fields: &[Field], bytes: &[u8]) -> Result<Reading, ReadFault>
+/// Reads fields one after another from the first bit of the bytes. `above` is their definition's order of bytes.
+fn read_fields(
+    alloc: Global,
+    above: Option<ByteOrder>,
+    fields: &[Field],
+    bytes: &[u8],
+) -> Result<Reading, ReadFault>
     requires { ArePlain fields.now }
     ensures found { IfOk result (λ reading. (parts : List Part)
-        × FieldsRead None fields.now 0 (bits_of bytes.now) (Ok parts) × (reading ≡ group_of parts)) }
+        × FieldsRead above fields.now 0 (bits_of bytes.now) (Ok parts) × (reading ≡ group_of parts)) }
     ensures fault { IfErr result (λ e. OfFault e (λ fault.
-        FieldsRead None fields.now 0 (bits_of bytes.now) (Err fault))) }
+        FieldsRead above fields.now 0 (bits_of bytes.now) (Err fault))) }
 {
     let mut entries = Vec::with_capacity(alloc, fields.len())?;
     let mut spans = Vec::new(alloc);
@@ -58,7 +59,8 @@ fn read_fields(alloc: Global, fields: &[Field], bytes: &[u8]) -> Result<Reading,
     let mut from = 0;
     for field in fields {
         let width = width_of(field);
-        let number = number_at(bytes, from, width)?;
+        let order = order_of(field.order, above, width);
+        let number = number_at(bytes, from, width, order)?;
         let end = from + usize::from(width / 8);
         entries.push(number_node(number))?;
         spans.push(Span {
@@ -81,8 +83,13 @@ fn read_fields(alloc: Global, fields: &[Field], bytes: &[u8]) -> Result<Reading,
 
 /// Reads the definition at the place `def` at the front of the bytes. Bytes may follow the value.
 ///
-/// The definition must be one that can be read so far, as `can_read` tells. A fault's bit counts from the first
-/// byte.
+/// The definition must be one that can be read so far, as `can_read` tells. Its fields stand one after another from
+/// the first byte on, each in its own order of bytes, else in its definition's, else the most significant byte first.
+/// The node is a group with case 0 that has a number for each field. `bits` and the spans are in bits, counted from
+/// the value's first; the first span is the group's, and the others are the fields'.
+///
+/// The first field that can't be read says why there is no value: `Bad`, with `TooLong` and the bit where it begins,
+/// if it would end past bit 524,280, and else `Short`, as its bytes aren't all there. `NoMemory` is want of memory.
 pub fn read_plain(
     alloc: Global,
     d: &Description,
@@ -95,5 +102,6 @@ pub fn read_plain(
     ensures fault { IfErr result (λ e. OfFault e (λ fault. Reads d.now def args.now (bits_of bytes.now) (Err fault))) }
 {
     let _ = args;
-    read_fields(alloc, fields_of(d, def), bytes)
+    let found = &d.defs.as_slice()[usize::from(def)];
+    read_fields(alloc, found.order, fields_of(&found.body), bytes)
 }

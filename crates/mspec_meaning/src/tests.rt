@@ -27,6 +27,11 @@ const WORD: Number = Number {
     order: None,
 };
 
+const BIG_WORD: Number = Number {
+    width: 16,
+    order: Some(ByteOrder::Big),
+};
+
 const LITTLE_WORD: Number = Number {
     width: 16,
     order: Some(ByteOrder::Little),
@@ -100,6 +105,14 @@ fn read(alloc: Global, d: &Description, bytes: &[u8]) -> Option<Result<Reading, 
     }
 }
 
+/// The entries of a type's value.
+fn entries_of(reading: &Reading) -> Option<&[Node]> {
+    match &reading.node {
+        Node::Group { case: 0, entries } => Some(entries.as_slice()),
+        _ => None,
+    }
+}
+
 #[test]
 fn bytes_are_read(rt: HostRuntime) -> Result<(), Fail> {
     let d = description_of(rt.alloc(), &PLAIN)?;
@@ -114,13 +127,35 @@ fn bytes_are_read(rt: HostRuntime) -> Result<(), Fail> {
         ]
         .as_slice()
     );
-    let Node::Group { case: 0, entries } = &reading.node else {
-        return Err(Fail::from("no type's value"));
+    let entries = entries_of(&reading).ok_or("no type's value")?;
+    assert!(rt; matches!(entries, [Node::Num(1), Node::Num(2)]));
+    Ok(())
+}
+
+#[test]
+fn a_little_endian_number_is_read(rt: HostRuntime) -> Result<(), Fail> {
+    let form = Form {
+        fields: &[LITTLE_WORD],
+        ..PLAIN
     };
-    let [Node::Num(first), Node::Num(second)] = entries.as_slice() else {
-        return Err(Fail::from("no two numbers"));
+    let d = description_of(rt.alloc(), &form)?;
+    let reading = read(rt.alloc(), &d, &[0x34, 0x12]).ok_or("not plain")??;
+    let entries = entries_of(&reading).ok_or("no type's value")?;
+    assert!(rt; matches!(entries, [Node::Num(4660)]));
+    Ok(())
+}
+
+#[test]
+fn a_fields_own_order_comes_first(rt: HostRuntime) -> Result<(), Fail> {
+    let form = Form {
+        fields: &[WORD, BIG_WORD],
+        order: Some(ByteOrder::Little),
+        params: 0,
     };
-    assert_eq!(rt; (*first, *second), (1, 2));
+    let d = description_of(rt.alloc(), &form)?;
+    let reading = read(rt.alloc(), &d, &[0x34, 0x12, 0, 7]).ok_or("not plain")??;
+    let entries = entries_of(&reading).ok_or("no type's value")?;
+    assert!(rt; matches!(entries, [Node::Num(4660), Node::Num(7)]));
     Ok(())
 }
 
@@ -143,14 +178,6 @@ fn only_plain_types_can_be_read(rt: HostRuntime) -> Result<(), Fail> {
     let others = [
         Form {
             fields: &[BYTE, TWELVE_BITS],
-            ..PLAIN
-        },
-        Form {
-            fields: &[BYTE, LITTLE_WORD],
-            ..PLAIN
-        },
-        Form {
-            order: Some(ByteOrder::Little),
             ..PLAIN
         },
         Form { params: 1, ..PLAIN },

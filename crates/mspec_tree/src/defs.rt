@@ -28,16 +28,21 @@ pub struct Constant {
     pub attrs: LitList,
 }
 
-/// What a definition defines: a `type`, a `discriminatedType`, a `dataIo` with its switch, or an `enum`
-/// over its base.
+/// What a definition defines.
 #[derive(Debug, Drop)]
 pub enum DefBody {
+    /// A `type`, by its fields in order.
     Plain(FieldList),
+    /// A `discriminatedType`, by its fields in order, of which one is a switch.
     Switched(FieldList),
+    /// A `dataIo`, by its one field, a switch.
     DataIo(Field),
+    /// An `enum`, by the type of its numbers and its constants in order.
     Enum(Simple, ConstantList),
 }
 
+/// A definition. `place` is its bracket's, `named` its name's. `order` is the order of bytes of the fields that have none of
+/// their own.
 #[derive(Debug, Drop)]
 pub struct Def {
     pub place: Place,

@@ -13,24 +13,41 @@ pub struct Expr {
     pub shape: Shape,
 }
 
+/// What an expression is, by its outermost form.
 #[cycle(exprs)]
 #[derive(Debug, Drop)]
 pub enum Shape {
+    /// A literal.
     Lit(Lit),
+    /// `null`, with which an optional field is compared.
     Null,
+    /// A field or a parameter.
     Name(Name),
+    /// `curPos`, the whole bytes from the type's first bit to the position.
     CurPos,
+    /// `lengthInBytes` by itself, the length of the type's value.
     Length,
+    /// `lastItem`, whether the value is the last item of an array.
     LastItem,
+    /// `SUM_BYTES`, the sum of the bytes from the type's first bit on.
     SumBytes,
+    /// `XOR_BYTES`, their exclusive or.
     XorBytes,
+    /// A field of a value, an attribute of an enum value, or an enum's constant.
     Dot(ExprBox, Name),
+    /// `.lengthInBytes` of a value.
     LengthOf(ExprBox),
+    /// `COUNT`, how many items an array has.
     Count(ExprBox),
+    /// `CAST`, a value as one of this case.
     Cast(ExprBox, Name),
+    /// `!`
     Not(ExprBox),
+    /// `-` before an operand.
     Neg(ExprBox),
+    /// An operator between two operands.
     Two(Op, ExprBox, ExprBox),
+    /// `condition ? first : second`
     If(ExprBox, ExprBox, ExprBox),
 }
 

@@ -1,4 +1,5 @@
-//! The syntax tree of a description in mspec, the language in which Apache PLC4X describes protocols.
+//! The syntax tree of a description in mspec, the language in which Apache PLC4X describes protocols. Its forms are those of
+//! PLC4X's documentation of the mspec format, with quoted expressions. `docs/LANGUAGE.md` says what this compiler takes of it.
 #![tactic(auto)]
 
 mod defs;

@@ -1,10 +1,11 @@
 -- Bits of bytes, piece by piece, and the number that a list of bytes spells.
-use Rattle.std.proofs.Common.{◌≡◌, ℕ, zero, suc, ◌+◌, ◌*◌, ◌/◌, ◌%◌, ◌^◌, ◌<◌, ◌≤◌, ◌⊎◌, ◌==◌, Bool, List, [], ◌∷◌, ◌++◌, length, get_or, take, drop, refl, inl, inr, sym, ap, ◌∙◌, append_assoc, length-append, arith, pow-suc}
+use Rattle.std.proofs.Common.{◌≡◌, ℕ, zero, suc, ◌+◌, ◌*◌, ◌/◌, ◌%◌, ◌^◌, ◌<◌, ◌≤◌, ◌⊎◌, ◌==◌, Bool, List, [], ◌∷◌, ◌++◌, length, get_or, take, drop, reverse, refl, inl, inr, sym, ap, ◌∙◌, append_assoc, length-append, arith, pow-suc}
 use Rattle.std.proofs.Math.ListN.{drop_of_length-le}
 use Rattle.std.proofs.Math.Seq.{take-append_seam, drop-append_seam}
 use Rattle.std.proofs.lemmas.List.{length-take-le, take-append-drop, take_more, append-nil}
+use Rattle.std.proofs.lemmas.Grind.{reverse_onto}
 use Rattle.std.proofs.lemmas.Bool.Decides.{nat_tests}
-use Rattle.node_tree.specs.Bits.{number_bits, bits_of, digit, spelled_behind, big_number}
+use Rattle.node_tree.specs.Bits.{number_bits, bits_of, digit, spelled_behind, big_number, groups_reversed, little_number}
 
 pub length_number_bits : (width number : ℕ) → length (number_bits width number) ≡ width
 unfolding number_bits
@@ -64,14 +65,18 @@ drop_bits_of n bytes h =
     ∙ ap (λ bits. drop (length (bits_of (take n bytes))) bits) (split_bits n bytes)
     ∙ drop-append_seam (bits_of (take n bytes)) (bits_of (drop n bytes))
 
+-- the number that bytes spell, and one byte more
+pub one_byte_more : (bytes : List ℕ) (byte : ℕ) → byte < 256 → big_number (bits_of (bytes ++ byte ∷ [])) ≡ 256 * big_number (bits_of bytes) + byte
+one_byte_more bytes byte small =
+    ap big_number (bits_of-append bytes (byte ∷ []))
+    ∙ spelled_behind-append 0 (bits_of bytes) (bits_of (byte ∷ []))
+    ∙ ap (λ bits. spelled_behind (big_number (bits_of bytes)) bits) (append-nil (number_bits 8 byte))
+    ∙ spelled_byte (big_number (bits_of bytes)) byte small
+
 -- the number that the bytes spell up to one more
 pub spelled_more : (bytes : List ℕ) (i : ℕ) → i < length bytes → get_or bytes i 0 < 256 → big_number (bits_of (take (i + 1) bytes)) ≡ 256 * big_number (bits_of (take i bytes)) + get_or bytes i 0
 spelled_more bytes i h small =
-    ap (λ xs. big_number (bits_of xs)) (take_more bytes i 0 h)
-    ∙ ap big_number (bits_of-append (take i bytes) (get_or bytes i 0 ∷ []))
-    ∙ spelled_behind-append 0 (bits_of (take i bytes)) (bits_of (get_or bytes i 0 ∷ []))
-    ∙ ap (λ bits. spelled_behind (big_number (bits_of (take i bytes))) bits) (append-nil (number_bits 8 (get_or bytes i 0)))
-    ∙ spelled_byte (big_number (bits_of (take i bytes))) (get_or bytes i 0) small
+    ap (λ xs. big_number (bits_of xs)) (take_more bytes i 0 h) ∙ one_byte_more (take i bytes) (get_or bytes i 0) small
 
 past_end : (n : ℕ) (bytes : List ℕ) → length bytes ≤ n → drop (8 * n) (bits_of bytes) ≡ bits_of (drop n bytes)
 past_end n bytes h =
@@ -86,3 +91,21 @@ within_or_past (suc n) (suc m) = elim (within_or_past n m) [ inl h ↦ inl (omeg
 pub bits_behind : (n : ℕ) (bytes : List ℕ) → drop (8 * n) (bits_of bytes) ≡ bits_of (drop n bytes)
 bits_behind n bytes =
     elim (within_or_past n (length bytes)) [ inl h ↦ drop_bits_of n bytes h | inr h ↦ past_end n bytes h ]
+
+-- a byte's bits are a group, which goes behind all others
+groups_reversed-byte : (byte : ℕ) (bits : List Bool) → groups_reversed (number_bits 8 byte ++ bits) ≡ groups_reversed bits ++ number_bits 8 byte
+unfolding number_bits
+groups_reversed-byte byte bits = refl
+
+groups_reversed-bits_of : (bytes : List ℕ) → groups_reversed (bits_of bytes) ≡ bits_of (reverse bytes)
+groups_reversed-bits_of [] = refl
+groups_reversed-bits_of (byte ∷ bytes) =
+    groups_reversed-byte byte (bits_of bytes)
+    ∙ ap (λ bits. bits ++ number_bits 8 byte) (groups_reversed-bits_of bytes)
+    ∙ ap (λ bits. bits_of (reverse bytes) ++ bits) (sym (append-nil (number_bits 8 byte)))
+    ∙ sym (bits_of-append (reverse bytes) (byte ∷ []))
+    ∙ ap bits_of (sym (reverse_onto bytes byte []))
+
+-- the least significant byte first is the other way round
+pub little_number-bits_of : (bytes : List ℕ) → little_number (bits_of bytes) ≡ big_number (bits_of (reverse bytes))
+little_number-bits_of bytes = ap big_number (groups_reversed-bits_of bytes)

@@ -2,6 +2,7 @@
 #![tactic(auto)]
 
 mod faults;
+mod laws;
 mod lists;
 mod nodes;
 mod readings;
@@ -9,6 +10,7 @@ mod readings;
 mod tests;
 
 pub use faults::{EvalFault, ReadFault, ReadWhy, WriteFault, WriteWhy};
+pub use laws::{bits_by_bytes, little_numbers_by_bytes, numbers_by_bytes};
 pub use lists::OwnedList;
 pub use nodes::{ByteList, Node, NodeList};
 pub use readings::{Reading, Span, SpanList};

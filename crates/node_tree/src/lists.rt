@@ -31,12 +31,14 @@ impl<T> OwnedList<T> {
         }
     }
 
+    /// The list of these items. It takes no memory.
     pub fn from_vec(items: Vec<T>) -> OwnedList<T>
         ensures { result ≡ items.items }
     {
         OwnedList { items }
     }
 
+    /// Its items. It takes no memory.
     pub fn into_vec(self) -> Vec<T>
         ensures { result.items ≡ self }
     {
@@ -64,6 +66,7 @@ impl<T> OwnedList<T> {
 }
 
 impl<T: Copy> OwnedList<T> {
+    /// A copy of these items.
     pub fn from_slice(alloc: Global, items: &[T]) -> Result<OwnedList<T>, AllocError>
         ensures { IfOk result (λ list. list ≡ items.now) }
     {

@@ -6,14 +6,11 @@ use Rattle.std.proofs.lemmas.Bool.{false≢true}
 use Rattle.std.proofs.lemmas.List.{map-append}
 use Rattle.std.proofs.lemmas.Grind.{flat_map-append}
 use Rattle.std.proofs.lemmas.Slice.Eq.{bytes_eq-Decides}
-use Rattle.std.proofs.lemmas.Option.{option_and_then_some}
+use Rattle.std.proofs.lemmas.Option.{none-some, option_and_then_some}
 use Rattle.plchost.specs.FirstForm.{IsName, Token, Open, Close, Word, BeginsWith, PlainField, names_of, Differ, AreFields, field_tokens}
 use Rattle.plchost.specs.declared.plain_types.ReadField.{ReadField}
 use Rattle.plchost.specs.FormReaders.{seen, symbol_of, keyword_of, name_of, number_of, field_of, head_of, then_close, AreAllFields}
 use Rattle.plchost.proofs.TokenLaws.{open-sound, open-complete, close-sound, close-complete, open_or_close, keyword-sound, keyword-complete, false_unless, name-sound, name-complete, number-sound, number-complete}
-
-pub none_or_some : {A : Type 0} (x : A) → ◌≡◌ {A = Option A} None (Some x) → ⊥
-none_or_some x h = cc
 
 -- ---- tokens one after another
 
@@ -225,7 +222,7 @@ ended rest end [] over h named = (refl, h)
 ended rest end (o ∷ os) over h named =
     let parts = begins_split rest (field_tokens o) (then_close os) end h in
     let found = field-complete rest o parts.0 parts.1 named.0 in
-    absurd (none_or_some (o, parts.0) (sym over ∙ found))
+    absurd (none-some (o, parts.0) (sym over ∙ found))
 
 -- once all are read, there are no other fields, and the closing bracket follows
 pub all_read : (text : List ℕ) (fs : List PlainField) (rest : List ℕ) → AreAllFields text fs rest → (gs : List PlainField) (end : List ℕ) → AreFields gs → BeginsWith text (then_close gs) end → (gs ≡ fs) × BeginsWith rest (Close ∷ []) end

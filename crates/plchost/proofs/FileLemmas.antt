@@ -1,6 +1,9 @@
 -- What was seen of a file of which a front was read.
-use Rattle.std.proofs.Common.{◌≡◌, ℕ, ◌≤◌, ◌⊎◌, List, [], length, take, Option, Some, None, refl, inl, inr, sym, ap, ◌∙◌, subst, arith}
+use Rattle.std.proofs.Common.{◌≡◌, ℕ, ◌≤◌, ◌⊎◌, List, [], length, take, Option, Some, None, Result, Ok, Err, refl, inl, inr, sym, ap, ◌∙◌, subst, arith}
+use Rattle.std.specs.Bool.{IsTrue}
 use Rattle.std.specs.Option.{IfSome}
+use Rattle.std.specs.Result.{IsErr}
+use Rattle.std.proofs.lemmas.Result.{IfOk-from_err}
 use Rattle.std.proofs.lemmas.List.{take_all, length-take}
 use Rattle.mspec_tree.specs.declared.defs.Description.{Description}
 use Rattle.link_io.specs.Counts.{Rose}
@@ -10,10 +13,12 @@ use Rattle.plchost.specs.declared.files.FileFault.TheVariants.{Failed, NoMemory}
 use Rattle.plchost.specs.declared.plain_types.FormFault.{FormFault}
 use Rattle.plchost.specs.declared.plain_types.FormFault.TheVariants.{NotBuilt}
 use Rattle.plchost.specs.declared.plain_types.FormFault.TheVariants as forms
+use Rattle.plchost.specs.declared.preparing.Refusal.{Refusal}
+use Rattle.plchost.specs.declared.preparing.Refusal.TheVariants as refusals
 use Rattle.plchost.specs.Preparing.{ComesToRefusal, from_file, from_form}
 use Rattle.plchost.specs.FirstForm.{FirstForm}
 use Rattle.plchost.specs.Tool.{AreDecode}
-use Rattle.plchost.specs.Runs.{FileSeen, FileTaken}
+use Rattle.plchost.specs.Runs.{FileSeen, FileTaken, LacksFile}
 use Rattle.plchost.proofs.WordLemmas.{one_decode}
 
 -- the front of a file that is within the limit is the file
@@ -60,3 +65,17 @@ unformed_seen words name kind text counts_with before after NotBuilt decode same
 unformed_seen words name kind text counts_with before after forms.NoMemory decode same front none =
     let some = some_seen (before.file name) in
     (Some some.0, seen_by words name kind counts_with before after (Some some.0) decode (same, some.1) (λ other _. same other), tt)
+
+-- a file that wasn't read stops the run
+abbrev pub IsFileRefusal : {T : Type 0} → Result T Refusal → Type 0
+IsFileRefusal r = (r ≡ Err refusals.FileFault) ⊎ (r ≡ Err refusals.NoMemory)
+
+pub file_refusal : {T : Type 0} (e : FileFault) → IsFileRefusal {T = T} (Err (from_file e))
+file_refusal Failed = inl refl
+file_refusal NoMemory = inr refl
+
+-- no text was read of a file that the shelf lacks
+pub no_text_lacking : {T : Type 0} (words : List (List ℕ)) (files : ShelfSeen) (file kind : List ℕ) (text : T) → AreDecode words file kind → (IsTrue (files.lacks file) → IsErr {E = FileFault} (Ok text)) → LacksFile words files → ⊥
+no_text_lacking words files file kind text decode fails lacks =
+    let here = (one_decode words lacks.0 lacks.1 file kind lacks.2 decode).0 in
+    IfOk-from_err {E = FileFault} (Ok text) (λ t. ⊥) (fails (subst (λ (n : List ℕ). IsTrue (files.lacks n)) here lacks.3))

@@ -3,12 +3,13 @@ use Rattle.std.proofs.Common.{◌≡◌, ℕ, ◌≤◌, Bool, true, false, List
 use Rattle.std.specs.Bool.{IsTrue}
 use Rattle.std.specs.List.{AllByRecursion, flat_map}
 use Rattle.std.proofs.lemmas.Bool.{false≢true}
+use Rattle.std.proofs.lemmas.Option.{none-some}
 use Rattle.mspec_tree.specs.declared.defs.Description.{Description}
 use Rattle.plchost.specs.FirstForm.{is_blank, AllBlank, Close, Begins, BeginsWith, Tokens, PlainField, PlainType, AreFields, IsPlain, field_tokens, tokens_of, tree_of, FirstForm}
 use Rattle.plchost.specs.FormReaders.{front, behind, symbol_of, head_of, then_close, is_empty, is_end_at, is_end, AreAllFields}
 use Rattle.plchost.proofs.Fronts.{parted, front_passes}
 use Rattle.plchost.proofs.TokenLaws.{close-sound, close-complete, open_or_close}
-use Rattle.plchost.proofs.FieldLaws.{none_or_some, begins_append, begins_split, head_tokens, head-sound, head-complete, follow, all_read}
+use Rattle.plchost.proofs.FieldLaws.{begins_append, begins_split, head_tokens, head-sound, head-complete, follow, all_read}
 
 -- ---- the end
 
@@ -55,7 +56,7 @@ behind_head text name rest found p end plain h =
 pub no_head : (text : List ℕ) → head_of text ≡ None → (p : PlainType) → IsPlain p → Tokens text (tokens_of p) → ⊥
 no_head text none p plain h =
     let parts = begins_split text (head_tokens p.name) (then_close p.fields) h.0 h.1 in
-    none_or_some (p.name, parts.0) (sym none ∙ head-complete text p.name parts.0 parts.1 plain.named)
+    none-some (p.name, parts.0) (sym none ∙ head-complete text p.name parts.0 parts.1 plain.named)
 
 -- ---- one description
 

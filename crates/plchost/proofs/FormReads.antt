@@ -25,12 +25,12 @@ is_width Bits64 = inr (inr (inr refl))
 are_plain : (fields : List PlainField) → ArePlain (map field_tree fields)
 are_plain [] = tt
 are_plain (f ∷ fields) = (
-  (refl, (bits f.width, subst (λ (body : Body-F Body Case Field). HasWidth body (bits f.width)) (sym (outs-Simple (PlainRef (Uint (bits f.width))))) (refl, is_width f.width))),
+  (bits f.width, subst (λ (body : Body-F Body Case Field). HasWidth body (bits f.width)) (sym (outs-Simple (PlainRef (Uint (bits f.width))))) (refl, is_width f.width)),
   are_plain fields,
 )
 
 tree_reads : (p : PlainType) (def : ℕ) (found : Def) → slice_get (tree_of p).defs def ≡ Some found → CanRead (tree_of p) def []
-tree_reads p zero found h = (_, refl, refl, refl, refl, are_plain p.fields)
+tree_reads p zero found h = (_, refl, refl, refl, are_plain p.fields)
 tree_reads p (suc n) found h = absurd (omega (arith, slice_get_within (tree_of p).defs (suc n) found h))
 
 pub form_reads : (text : List ℕ) (d : Description) (def : ℕ) (name : List ℕ) → FirstForm text d → Names d def name → CanRead d def []

@@ -1,6 +1,6 @@
 -- What was taken from an input, piece by piece.
 use Rattle.std.proofs.Common.{◌≡◌, ◌≢◌, ℕ, ◌+◌, ◌≤◌, List, [], ◌++◌, length, Option, Some, None, inl, inr, sym, ap, ◌∙◌, subst, arith}
-use Rattle.plchost.proofs.StatusLemmas.{is_or_not}
+use Rattle.std.proofs.lemmas.Bool.{cases_eq}
 use Rattle.link_io.specs.Counts.{Rose}
 use Rattle.link_io.specs.Streams.{SourceSeen, Tape, after_giving, AreNext, IsAtEnd, after_giving-nil, after_giving-append, AreNext-append}
 use Rattle.plchost.specs.declared.inputs.How.{How}
@@ -39,7 +39,7 @@ below n m most other = omega (arith, most, other)
 
 pub taken_so_far : (s0 s1 : SourceSeen) (bytes : List ℕ) → s1.tape ≡ after_giving bytes s0.tape → AreNext bytes s0.tape → s1.ends ≡ s0.ends → s1.faults ≡ s0.faults → length bytes ≤ 16777217 → (taken : List ℕ) × (how : Option How) × InputTaken s0 s1 taken how
 taken_so_far s0 s1 bytes a next ends faults most =
-    elim (is_or_not (length bytes) 16777217) [
+    elim (cases_eq (length bytes) 16777217) [
       | inl long ↦ (bytes, Some Over, taken_over s0 s1 bytes a next ends faults long)
       | inr other ↦ (bytes, None, record { given = a; next = next; at_end = λ e. absurd (let h : None ≡ Some Ended = e in cc); left = (ends, faults, below (length bytes) 16777216 most other) })
     ]

@@ -1,3 +1,5 @@
+pub mod Complete
+pub mod EndLemmas
 pub mod EndStatus
 pub mod FieldLaws
 pub mod FileLemmas
@@ -9,11 +11,13 @@ pub mod InputLemmas
 pub mod LineLaws
 pub mod LineLemmas
 pub mod ListingLemmas
+pub mod NameLemmas
 pub mod NoRefusal
 pub mod OneSaid
 pub mod ReplyLemmas
 pub mod RunLemmas
 pub mod ScriptStatus
+pub mod SomeSaid
 pub mod StatusLemmas
 pub mod StreamLemmas
 pub mod TokenLaws

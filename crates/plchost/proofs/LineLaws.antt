@@ -2,7 +2,8 @@
 use Rattle.std.proofs.Common.{◌≡◌, ◌≢◌, ℕ, ◌==◌, Bool, false, List, [], ◌∷◌, ◌++◌, refl, ap, ◌∙◌, append_assoc, arith}
 use Rattle.std.specs.List.{AllByRecursion, slice_split}
 use Rattle.std.proofs.lemmas.Bool.Decides.{nat_tests}
-use Rattle.plchost.specs.Lines.{IsFeedless, last_line, lines_among, lines_in, with_feeds}
+use Rattle.plchost.specs.Lines.{last_line, lines_among, lines_in, with_feeds}
+use Rattle.answer_texts.specs.Lines.{IsFeedless}
 use Rattle.plchost.proofs.LineLemmas.{before_parts, some_part}
 
 other_byte : (b : ℕ) → b ≢ 10 → (b == 10) ≡ false

@@ -59,8 +59,12 @@ no_place_cases n len false is h = grind (arith, nat_tests)
 pub feed_at : (xs : List ℕ) (i : ℕ) → Some i ≡ position (λ b. b == 10) xs → (position_or_len (λ b. b == 10) xs ≡ i) × (i < length xs)
 feed_at xs i h = place_cases (position_or_len (λ b. b == 10) xs) (length xs) (ltb (position_or_len (λ b. b == 10) xs) (length xs)) i refl (sym h)
 
+-- where nothing passes, all that stands there doesn't
+pub no_position : {X : Type 0} (test : X → Bool) (xs : List X) → None ≡ position test xs → length xs ≤ position_or_len test xs
+no_position test xs h = no_place_cases (position_or_len test xs) (length xs) (ltb (position_or_len test xs) (length xs)) refl (sym h)
+
 pub no_feed : (xs : List ℕ) → None ≡ position (λ b. b == 10) xs → length xs ≤ position_or_len (λ b. b == 10) xs
-no_feed xs h = no_place_cases (position_or_len (λ b. b == 10) xs) (length xs) (ltb (position_or_len (λ b. b == 10) xs) (length xs)) refl (sym h)
+no_feed xs h = no_position (λ b. b == 10) xs h
 
 -- the line at the line feed, and the lines behind it
 pub line_at : (ended : Bool) (xs : List ℕ) (i : ℕ) → Some i ≡ position (λ b. b == 10) xs → lines_in ended xs ≡ take i xs ∷ lines_in ended (drop (i + 1) xs)

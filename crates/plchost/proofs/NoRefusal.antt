@@ -1,8 +1,8 @@
 -- No value of a description in the first form is refused.
-use Rattle.std.proofs.Common.{◌≡◌, ◌≢◌, ℕ, zero, suc, ◌+◌, ◌*◌, ◌%◌, ◌≤◌, Bool, true, false, List, [], ◌∷◌, length, take, drop, map, ltb, Option, Some, None, Result, Ok, Err, refl, inl, inr, ap, sym, ◌∙◌, subst, arith}
+use Rattle.std.proofs.Common.{◌≡◌, ◌≢◌, ℕ, zero, suc, ◌+◌, ◌*◌, ◌%◌, ◌≤◌, Bool, true, false, List, [], ◌∷◌, length, take, drop, map, Option, Some, None, Result, Ok, Err, refl, inl, inr, ap, sym, ◌∙◌, subst, arith}
 use Rattle.std.specs.Prelude.{if◌then◌else◌}
 use Rattle.std.proofs.lemmas.Option.{slice_get_within}
-use Rattle.std.proofs.lemmas.Bool.Decides.{nat_tests}
+use Rattle.std.proofs.lemmas.Bool.{le-ltb}
 use Rattle.node_tree.specs.Bits.{bits_of}
 use Rattle.node_tree.specs.declared.readings.Reading.{Reading}
 use Rattle.node_tree.specs.declared.faults.ReadWhy.{ReadWhy}
@@ -37,9 +37,6 @@ sized Bits16 = (omega arith, omega arith, refl)
 sized Bits32 = (omega arith, omega arith, refl)
 sized Bits64 = (omega arith, omega arith, refl)
 
-lt_false : (a b : ℕ) → b ≤ a → ltb a b ≡ false
-lt_false a b h = grind (arith, nat_tests)
-
 -- what two tests leave of a number's reading
 abbrev tested : (long short : Bool) (value width at : ℕ) → Result Part Fault
 tested long short value width at =
@@ -68,7 +65,7 @@ field_ends f at all part read = tested_end _ _ _ (bits f.width) at part (reads_i
 
 field_bad : (f : PlainField) (at : ℕ) (all : List Bool) (bit : ℕ) (why : ReadWhy) → at + bits f.width ≤ bit_limit → FieldReads None (field_tree f) at all (Err (Bad bit why)) → ⊥
 field_bad f at all bit why fits read =
-    tested_bad _ _ _ (bits f.width) at bit why (lt_false bit_limit (at + bits f.width) fits) (reads_is f at all (Err (Bad bit why)) read)
+    tested_bad _ _ _ (bits f.width) at bit why (le-ltb bit_limit (at + bits f.width) fits) (reads_is f at all (Err (Bad bit why)) read)
 
 -- fields are whole bytes, at least one each
 fields_end : (fields : List PlainField) (at : ℕ) (all : List Bool) (parts : List Part) → FieldsRead None (map field_tree fields) at all (Ok parts) → at % 8 ≡ 0 → (at + 8 * length fields ≤ end_of at parts) × (end_of at parts % 8 ≡ 0)

@@ -21,7 +21,7 @@ only_place : (p : PlainType) (def : ℕ) (found : Def) → slice_get (tree_of p)
 only_place p zero found h = refl
 only_place p (suc n) found h = absurd (omega (arith, slice_get_within (tree_of p).defs (suc n) found h))
 
-first_place : (text : List ℕ) (d : Description) (def : ℕ) (kind : List ℕ) → FirstForm text d → Names d def kind → def ≡ 0
+pub first_place : (text : List ℕ) (d : Description) (def : ℕ) (kind : List ℕ) → FirstForm text d → Names d def kind → def ≡ 0
 first_place text d def kind form named =
     only_place form.0 def named.0 (subst (λ (t : Description). slice_get t.defs def ≡ Some named.0) form.4 named.1)
 

@@ -1,5 +1,5 @@
 -- What each status tells.
-use Rattle.std.proofs.Common.{◌≡◌, ◌≢◌, ℕ, ◌==◌, ◌||◌, ◌<◌, ◌⊎◌, Bool, true, false, List, [], ◌∷◌, length, codes, Option, Some, None, refl, inl, inr, sym, ap, ◌∙◌, subst, zero, suc, arith}
+use Rattle.std.proofs.Common.{◌≡◌, ◌≢◌, ℕ, ◌==◌, ◌||◌, ◌<◌, Bool, true, false, List, [], ◌∷◌, length, codes, Option, Some, None, refl, inl, inr, sym, ap, ◌∙◌, subst, arith}
 use Rattle.std.specs.Prelude.{if◌then◌else◌}
 use Rattle.std.proofs.lemmas.Bool.{false≢true}
 use Rattle.mspec_meaning.specs.Stream.{Ending, End, TooFew, Refused}
@@ -248,12 +248,6 @@ how_at_13 how (Answers text end) e = script_at_13 how end e
 -- an input is too long only where more bytes were taken than count
 pub over_at_13 : (how : Option How) (course : Course) (before after : SourceSeen) (taken : List ℕ) → (said how course).status ≡ 13 → InputTaken before after taken how → InputTaken before after taken (Some Over)
 over_at_13 how course before after taken e input = subst (λ (h : Option How). InputTaken before after taken h) (how_at_13 how course e) input
-
-pub is_or_not : (n m : ℕ) → (n ≡ m) ⊎ (n ≢ m)
-is_or_not zero zero = inl refl
-is_or_not zero (suc m) = inr (λ e. absurd (omega (arith, e)))
-is_or_not (suc n) zero = inr (λ e. absurd (omega (arith, e)))
-is_or_not (suc n) (suc m) = elim (is_or_not n m) [ inl e ↦ inl (ap (λ k. suc k) e) | inr ne ↦ inr (λ e. absurd (ne (omega (arith, e)))) ]
 
 pub refused_at_12 : (words : List (List ℕ)) (t : Taken) (course : Course) → ComesTo words t course → (said t.how course).status ≡ 12 → ComesTo words t TypeRefused
 refused_at_12 words t WordsRefused comes e = absurd (omega (arith, e))

@@ -1,10 +1,10 @@
 -- What a run says, and the fronts of it that a run that was cut off has said.
 use Rattle.std.proofs.Common.{◌≡◌, ℕ, List, [], ◌++◌, length, take, min, Option, Some, None, Result, Ok, Err, refl, inl, inr, sym, ap, ◌∙◌, subst, append_assoc, arith}
 use Rattle.std.specs.Result.{IfOk}
+use Rattle.std.proofs.lemmas.Bool.{cases_lt}
 use Rattle.std.proofs.lemmas.Grind.{flat_map-append}
 use Rattle.std.proofs.lemmas.List.{take_all, append-nil}
 use Rattle.node_tree.specs.declared.readings.Reading.{Reading}
-use Rattle.node_tree.proofs.BitsLemmas.{within_or_past}
 use Rattle.mspec_tree.specs.declared.defs.Description.{Description}
 use Rattle.mspec_meaning.specs.Stream.{Stream, Ending}
 use Rattle.link_io.specs.Streams.{ShelfSeen, SourceSeen, Tape, AreNext, after_giving-nil}
@@ -44,9 +44,9 @@ refusal_tool words file refusals.NoMemory h comes = absurd (h refl)
 
 -- the bytes that count
 counted : (n : ℕ) (bytes : List ℕ) → take (min (length bytes) n) bytes ≡ take n bytes
-counted n bytes = elim (within_or_past (length bytes) n) [
-  | inl h ↦ ap (λ m. take m bytes) (omega arith) ∙ take_all (length bytes) bytes (omega arith) ∙ sym (take_all n bytes h)
-  | inr h ↦ ap (λ m. take m bytes) (omega arith)
+counted n bytes = elim (cases_lt n (length bytes)) [
+  | inl h ↦ ap (λ m. take m bytes) (omega arith)
+  | inr h ↦ ap (λ m. take m bytes) (omega arith) ∙ take_all (length bytes) bytes (omega arith) ∙ sym (take_all n bytes h)
 ]
 
 -- the bytes that were read are those that count

@@ -1,9 +1,7 @@
 -- A list of three words.
-use Rattle.std.proofs.Common.{◌≡◌, ℕ, ◌<◌, true, false, List, [], ◌∷◌, length, get_or, codes, slice_get, Some, sym, ap, ◌∙◌, arith}
+use Rattle.std.proofs.Common.{◌≡◌, ℕ, List, [], ◌∷◌, length, codes, slice_get, Some, sym, ap, ◌∙◌, arith}
 use Rattle.std.specs.Prelude.{IsTrue, ◌↔◌}
 use Rattle.std.specs.Str.{bytes_eq}
-use Rattle.std.proofs.lemmas.Bool.{false≢true}
-use Rattle.std.proofs.lemmas.Option.{slice_get-get_or}
 use Rattle.std.proofs.lemmas.Slice.Eq.{bytes_eq-Decides}
 use Rattle.plchost.specs.Tool.{AreDecode}
 
@@ -13,15 +11,6 @@ of_three (x ∷ []) a b c n p q r = absurd (omega (arith, n))
 of_three (x ∷ y ∷ []) a b c n p q r = absurd (omega (arith, n))
 of_three (x ∷ y ∷ z ∷ []) a b c n p q r = cc
 of_three (x ∷ y ∷ z ∷ w ∷ more) a b c n p q r = absurd (omega (arith, n))
-
-pub same_bytes : (a b : List ℕ) → true ≡ bytes_eq a b → a ≡ b
-same_bytes a b h = (bytes_eq-Decides a b).0 (sym h)
-
-pub other_bytes : (a b : List ℕ) → false ≡ bytes_eq a b → a ≡ b → ⊥
-other_bytes a b h e = absurd (false≢true (h ∙ (bytes_eq-Decides a b).1 e))
-
-pub at_place : {A : Type 0} (items : List A) (place : ℕ) (item : A) → place < length items → item ≡ get_or items place item → slice_get items place ≡ Some item
-at_place items place item h e = slice_get-get_or items place item h ∙ ap (λ x. Some x) (sym e)
 
 -- the words name one file and one type
 pub one_decode : (words : List (List ℕ)) (name kind other type : List ℕ) → AreDecode words name kind → AreDecode words other type → (name ≡ other) × (kind ≡ type)

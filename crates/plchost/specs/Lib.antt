@@ -5,4 +5,5 @@ pub mod Lines
 pub mod Listing
 pub mod Preparing
 pub mod Runs
+pub mod Told
 pub mod Tool

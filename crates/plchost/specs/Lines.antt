@@ -1,6 +1,6 @@
 -- The lines of an input.
-use Rattle.std.specs.Prelude.{ℕ, ◌≢◌, ◌==◌, Bool, true, false, cond, List, [], ◌∷◌, ◌++◌, Option, Some, None}
-use Rattle.std.specs.List.{AllByRecursion, flat_map, slice_split}
+use Rattle.std.specs.Prelude.{ℕ, ◌==◌, Bool, true, false, cond, List, [], ◌∷◌, ◌++◌, Option, Some, None}
+use Rattle.std.specs.List.{flat_map, slice_split}
 use Rattle.plchost.specs.declared.inputs.How.{How}
 use Rattle.plchost.specs.declared.inputs.How.TheVariants.{Ended, Failed, Over}
 
@@ -16,10 +16,6 @@ lines_among ended (part ∷ next ∷ more) = part ∷ lines_among ended (next �
 
 abbrev pub lines_in : (ended : Bool) → List ℕ → List (List ℕ)
 lines_in ended bytes = lines_among ended (slice_split (λ b. b == 10) bytes)
-
--- bytes without a line feed
-abbrev pub IsFeedless : List ℕ → Type 0
-IsFeedless bytes = AllByRecursion (λ b. b ≢ 10) bytes
 
 -- lines, each with its line feed
 abbrev pub with_feeds : List (List ℕ) → List ℕ

@@ -1,8 +1,10 @@
 -- What a run of the program did with its streams, as they tell it and by their counts.
-use Rattle.std.specs.Prelude.{ℕ, ◌≡◌, ◌≢◌, ◌+◌, ◌≤◌, ◌⊎◌, List, [], ◌++◌, take, length, codes, Option, Some, None, IfSome}
+use Rattle.std.specs.Prelude.{ℕ, ◌≡◌, ◌≢◌, ◌+◌, ◌≤◌, ◌⊎◌, List, [], ◌++◌, take, length, codes, Option, Some, None, Result, Ok, Err, IfOk, IfSome, IsTrue}
 use Rattle.link_io.specs.Counts.{Rose}
-use Rattle.link_io.specs.Streams.{ShelfSeen, SinkSeen, SourceSeen, after_giving, AreNext, IsAtEnd, after_taking}
+use Rattle.link_io.specs.Streams.{LeavesFiles, ShelfSeen, SinkSeen, SourceSeen, after_giving, AreNext, IsAtEnd, after_taking}
 use Rattle.node_tree.specs.declared.readings.Reading.{Reading}
+use Rattle.plchost.specs.declared.faults.Cut.{Cut}
+use Rattle.plchost.specs.declared.faults.Cut.TheVariants.{NoMemory, WriteFault}
 use Rattle.plchost.specs.declared.inputs.How.{How}
 use Rattle.plchost.specs.declared.inputs.How.TheVariants.{Ended, Failed, Over}
 use Rattle.mspec_tree.specs.declared.defs.Description.{Description}
@@ -27,7 +29,8 @@ LeftSo (Some Over) before after taken =
 LeftSo None before after taken =
     (after.ends ≡ before.ends) × (after.faults ≡ before.faults) × (length taken ≤ input_limit)
 
--- What was read of the file of this name: nothing, and its count rose, or all its bytes as the shelf tells them.
+-- What was taken of the file of this name: nothing, and its count rose, or its bytes as the shelf tells them, and no count
+-- changed. A run that ran out of memory may not have asked for them.
 abbrev pub FileSeen : (name : List ℕ) → (before after : ShelfSeen) → Option (List ℕ) → Type 0
 FileSeen name before after None = Rose (before.faults name) (after.faults name)
 FileSeen name before after (Some text) =
@@ -47,7 +50,12 @@ abbrev pub IsCountedWithFile : (counts_with : List ℕ → List ℕ → Type 0) 
 IsCountedWithFile counts_with words other =
     (name kind : List ℕ) × AreDecode words name kind × counts_with name other
 
--- What was taken of the shelf: the file that the words name, if they do, and no other count has changed.
+-- the words are `decode` with a file that the shelf tells there isn't
+abbrev pub LacksFile : (words : List (List ℕ)) → ShelfSeen → Type 0
+LacksFile words files = (name kind : List ℕ) × AreDecode words name kind × IsTrue (files.lacks name)
+
+-- What was taken of the shelf: the file that the words name, if they do. No count has changed but those of names that the shelf
+-- counts together with it.
 pub record FileTaken (words : List (List ℕ)) (counts_with : List ℕ → List ℕ → Type 0) (before after : ShelfSeen) (file : Option (List ℕ)) : Type 0 where
   pub named : (name kind : List ℕ) → AreDecode words name kind → FileSeen name before after file
   pub others : (other : List ℕ) → (IsCountedWithFile counts_with words other → ⊥) → after.faults other ≡ before.faults other
@@ -69,6 +77,40 @@ pub record Shown : Type 0 where
   pub files : ShelfSeen
   pub input : SourceSeen
   pub out : SinkSeen
+
+abbrev pub shown : ShelfSeen → SourceSeen → SinkSeen → Shown
+shown files input out = record { files = files; input = input; out = out }
+
+-- A run by these words, with this shown before it and after it, came to this status or was cut off, with this gathered before it
+-- and after it.
+pub record RunsTo (words : List (List ℕ)) (counts_with : List ℕ → List ℕ → Type 0) (before after : Shown) (gathered gathered' : List ℕ) (ran : Result ℕ Cut) : Type 0 where
+  -- The tool's text was added, and the status is the tool's.
+  pub said : IfOk ran (λ status. (t : Taken) × (outcome : Said)
+      × Took words counts_with before.files after.files before.input after.input t
+      × Tool words t outcome
+      × Adds before.out.held after.out.held gathered gathered' outcome.text
+      × (status ≡ outcome.status))
+  -- Where memory ran out a front of it was added.
+  pub no_memory : ran ≡ Err NoMemory → (t : Taken) × (front : List ℕ)
+      × Took words counts_with before.files after.files before.input after.input t
+      × IsFront words t front
+      × Adds before.out.held after.out.held gathered gathered' front
+  -- Where the output failed a front of it went out, or a front of what was gathered before.
+  pub cut : ran ≡ Err WriteFault → (t : Taken) × (front : List ℕ)
+      × Took words counts_with before.files after.files before.input after.input t
+      × IsFront words t front
+      × PutsFront before.out.held after.out.held (gathered ++ front)
+  -- The output failed exactly where its count rose.
+  pub out_failed : ran ≡ Err WriteFault → Rose before.out.faults after.out.faults
+  pub out_well : (ran ≡ Err WriteFault) ⊎ (after.out.faults ≡ before.out.faults)
+  -- It leaves every file.
+  pub files : LeavesFiles before.files after.files
+
+-- the last line and the status of a run that came to this
+abbrev pub last_of : Result ℕ Cut → Said
+last_of (Ok status) = record { text = []; status = status }
+last_of (Err NoMemory) = record { text = codes "no memory\n"; status = 8 }
+last_of (Err WriteFault) = record { text = []; status = 5 }
 
 -- A run by these words, with this shown before it and after it, answered this status.
 pub record IsRun (words : List (List ℕ)) (counts_with : List ℕ → List ℕ → Type 0) (before after : Shown) (status : ℕ) : Type 0 where
@@ -92,7 +134,7 @@ pub record IsRun (words : List (List ℕ)) (counts_with : List ℕ → List ℕ 
   pub out_failed : status ≡ 5 → Rose before.out.faults after.out.faults
   pub out_well : status ≢ 5 → after.out.faults ≡ before.out.faults
   -- It leaves every file.
-  pub files : (name : List ℕ) → after.files.file name ≡ before.files.file name
+  pub files : LeavesFiles before.files after.files
 
 -- The words name a file that was read, a description in it, and a type of it, so that the input is to be read.
 abbrev pub IsReady : (words : List (List ℕ)) → (counts_with : List ℕ → List ℕ → Type 0) → (before after : ShelfSeen) → (d : Description) → (def : ℕ) → Type 0

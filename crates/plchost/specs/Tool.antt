@@ -49,8 +49,8 @@ Names d def name = (found : Def) × (slice_get d.defs def ≡ Some found) × (fo
 abbrev pub input_limit : ℕ
 input_limit = 16777216
 
--- What a run took: the bytes of the file that its words name, if it could be read; the bytes that were taken from the input;
--- and how the input was left, if it ended, failed or had more bytes than the limit.
+-- What a run took: the bytes of the file that its words name, as the shelf tells them, unless the file failed; the bytes that
+-- were taken from the input; and how the input was left, if it ended, failed or had more bytes than the limit.
 pub record Taken : Type 0 where
   pub file : Option (List ℕ)
   pub bytes : List ℕ

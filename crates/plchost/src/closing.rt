@@ -1,4 +1,4 @@
-ghost use Rattle.std.specs.Prelude.{◌≡◌, ℕ, List, ◌++◌, codes, Some, None, IfOk, IfErr};
+ghost use Rattle.std.specs.Prelude.{◌≡◌, ◌++◌, codes, Some, IfOk, IfErr};
 ghost use Rattle.std.specs.Fmt.{decimal};
 ghost use Rattle.plchost.specs.Endings.{ending_of, why_of};
 ghost use Rattle.plchost.specs.Preparing.{refusal_said};
@@ -7,6 +7,10 @@ ghost use Rattle.plchost.specs.Tool.{why_text, last_said, line_refused, script_l
 use crate::faults::Cut;
 use crate::inputs::How;
 use crate::preparing::Refusal;
+use crate::statuses::{
+    FILE_FAULT, LINE_REFUSED, NOT_BUILT, READ_FAULT, TOO_LONG, TRUNCATED, TYPE_REFUSED,
+    VALUE_REFUSED, WELL, WORDS_REFUSED,
+};
 use crate::values::{Rest, ValueWhy};
 use answer_texts::read_why_text;
 use itoa::Buffer;
@@ -15,6 +19,12 @@ use std::alloc::{AllocError, Global};
 
 /// How many lines a script has at least.
 const MUST_STAND: u64 = 2;
+
+/// The last line where the input failed.
+const READ_FAULT_LINE: &[u8] = b"read fault\n";
+
+/// The last line where the input has too many bytes.
+const TOO_LONG_LINE: &[u8] = b"input too long\n";
 
 fn why_text(why: ValueWhy) -> &'static [u8]
     ensures { result.now ≡ why_text (why_of why) }
@@ -64,21 +74,33 @@ pub fn close(alloc: Global, gathered: &mut Vec<u8>, how: How, rest: Rest) -> Res
     ensures unchanged { IfErr result (λ _. gathered.new.items ≡ gathered.old.items) }
 {
     match (rest, how) {
-        (Rest::Bad { bit, why }, _) => add_last(gathered, &refused_line(alloc, bit, why)?, 6),
-        (_, How::Failed) => add_last(gathered, b"read fault\n", 4),
-        (_, How::Over) => add_last(gathered, b"input too long\n", 13),
+        (Rest::Bad { bit, why }, _) => add_last(
+            gathered,
+            &refused_line(alloc, bit, why)?,
+            VALUE_REFUSED,
+        ),
+        (_, How::Failed) => add_last(gathered, READ_FAULT_LINE, READ_FAULT),
+        (_, How::Over) => add_last(gathered, TOO_LONG_LINE, TOO_LONG),
         (Rest::Short { left }, How::Ended) => {
-            add_last(gathered, &numbered_line(alloc, b"truncated ", left)?, 7)
+            add_last(
+                gathered,
+                &numbered_line(alloc, b"truncated ", left)?,
+                TRUNCATED,
+            )
         }
-        (Rest::Whole, How::Ended) => Ok(0),
+        (Rest::Whole, How::Ended) => Ok(WELL),
     }
 }
 
 fn refuse_line(alloc: Global, gathered: &mut Vec<u8>, line: u64) -> Result<u8, AllocError>
-    ensures closed { IfOk result (λ status. (gathered.new.items ≡ gathered.old.items ++ (line_refused line).text) × (status ≡ 10)) }
+    ensures closed { IfOk result (λ status. (gathered.new.items ≡ gathered.old.items ++ (line_refused line).text) × (status ≡ LINE_REFUSED)) }
     ensures unchanged { IfErr result (λ _. gathered.new.items ≡ gathered.old.items) }
 {
-    add_last(gathered, &numbered_line(alloc, b"line refused ", line)?, 10)
+    add_last(
+        gathered,
+        &numbered_line(alloc, b"line refused ", line)?,
+        LINE_REFUSED,
+    )
 }
 
 /// Adds the last line of a script whose lines end so, in an input that was left so, and answers the status. An
@@ -95,13 +117,13 @@ pub fn close_script(
 {
     match (how, end) {
         (_, ScriptEnd::Refused { line }) => refuse_line(alloc, gathered, line),
-        (How::Failed, _) => add_last(gathered, b"read fault\n", 4),
-        (How::Over, _) => add_last(gathered, b"input too long\n", 13),
+        (How::Failed, _) => add_last(gathered, READ_FAULT_LINE, READ_FAULT),
+        (How::Over, _) => add_last(gathered, TOO_LONG_LINE, TOO_LONG),
         (How::Ended, ScriptEnd::Answered { next, entries }) => {
             if next <= MUST_STAND {
                 refuse_line(alloc, gathered, next)
             } else {
-                add_last(gathered, &numbered_line(alloc, b"entries ", entries)?, 0)
+                add_last(gathered, &numbered_line(alloc, b"entries ", entries)?, WELL)
             }
         }
     }
@@ -115,10 +137,10 @@ pub fn say(gathered: &mut Vec<u8>, refusal: Refusal) -> Result<u8, Cut>
     ensures unchanged { IfErr result (λ cut. (cut ≡ Cut.NoMemory) × (gathered.new.items ≡ gathered.old.items)) }
 {
     let (line, status): (&[u8], u8) = match refusal {
-        Refusal::WordsRefused => (b"words refused\n", 2),
-        Refusal::FileFault => (b"file fault\n", 3),
-        Refusal::NotBuilt => (b"description refused 1:1 NotBuilt\n", 1),
-        Refusal::TypeRefused => (b"type refused\n", 12),
+        Refusal::WordsRefused => (b"words refused\n", WORDS_REFUSED),
+        Refusal::FileFault => (b"file fault\n", FILE_FAULT),
+        Refusal::NotBuilt => (b"description refused 1:1 NotBuilt\n", NOT_BUILT),
+        Refusal::TypeRefused => (b"type refused\n", TYPE_REFUSED),
         Refusal::NoMemory => return Err(Cut::NoMemory),
     };
     gathered.extend_from_slice(line)?;

@@ -1,8 +1,7 @@
-ghost use Rattle.std.specs.Prelude.{◌≡◌, ◌+◌, ◌<◌, ◌⊎◌, length, ℕ, List, ◌++◌, Option, Err, IfOk};
-ghost use Rattle.link_io.specs.Counts.{Rose};
+ghost use Rattle.std.specs.Prelude.{◌≡◌, ◌⊎◌, ℕ, IfOk};
 ghost use Rattle.mspec_tree.specs.declared.defs.Description.{Description};
-ghost use Rattle.plchost.specs.Tool.{AreReplay, Said, Taken, Tool, IsFront};
-ghost use Rattle.plchost.specs.Runs.{Adds, PutsFront, Took, IsReady, StopsEarly};
+ghost use Rattle.plchost.specs.Tool.{AreReplay};
+ghost use Rattle.plchost.specs.Runs.{IsReady, LacksFile, RunsTo, StopsEarly, shown};
 
 use crate::closing::{close, say};
 use crate::faults::Cut;
@@ -23,25 +22,13 @@ pub fn decode<F: Shelf, S: Source, K: Sink>(
     gathered: &mut Vec<u8>,
 ) -> Result<u8, Cut>
     requires { AreReplay words.now → ⊥ }
-    ensures said { IfOk result (λ status. (t : Taken) × (outcome : Said)
-        × Took words.now F.counts_with (F.seen files.old) (F.seen files.new) (S.seen input.old) (S.seen input.new) t
-        × Tool words.now t outcome
-        × Adds (K.seen out.old).held (K.seen out.new).held gathered.old.items gathered.new.items outcome.text
-        × (status ≡ outcome.status)) }
-    ensures files { (other : List ℕ) → (F.seen files.new).file other ≡ (F.seen files.old).file other }
+    ensures run { RunsTo words.now F.counts_with
+        (shown (F.seen files.old) (S.seen input.old) (K.seen out.old))
+        (shown (F.seen files.new) (S.seen input.new) (K.seen out.new)) gathered.old.items gathered.new.items result }
+    ensures lacking { LacksFile words.now (F.seen files.old) → IfOk result (λ status. status ≡ 3) }
     ensures touched { (input.new ≡ input.old) ⊎ ((d : Description) × (def : ℕ)
         × IsReady words.now F.counts_with (F.seen files.old) (F.seen files.new) d def) }
     ensures untouched { IfOk result (λ status. StopsEarly status → input.new ≡ input.old) }
-    ensures no_fault { result ≡ Err Cut.WriteFault ⊎ ((K.seen out.new).faults ≡ (K.seen out.old).faults) }
-    ensures no_memory { result ≡ Err Cut.NoMemory → (t : Taken) × (front : List ℕ)
-        × Took words.now F.counts_with (F.seen files.old) (F.seen files.new) (S.seen input.old) (S.seen input.new) t
-        × IsFront words.now t front
-        × Adds (K.seen out.old).held (K.seen out.new).held gathered.old.items gathered.new.items front }
-    ensures cut { result ≡ Err Cut.WriteFault → (t : Taken) × (front : List ℕ)
-        × Took words.now F.counts_with (F.seen files.old) (F.seen files.new) (S.seen input.old) (S.seen input.new) t
-        × IsFront words.now t front
-        × PutsFront (K.seen out.old).held (K.seen out.new).held (gathered.old.items ++ front) }
-    ensures fault { result ≡ Err Cut.WriteFault → Rose (K.seen out.old).faults (K.seen out.new).faults }
 {
     let ready = match prepare(alloc, words, files) {
         Ok(ready) => ready,

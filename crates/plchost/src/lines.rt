@@ -1,6 +1,7 @@
 ghost use Rattle.std.specs.Prelude.{◌≡◌, ◌<◌, ◌==◌, ℕ, Bool, List, [], ◌∷◌, ◌++◌, length, MatchOption};
 ghost use Rattle.std.specs.List.{AllByRecursion, position};
-ghost use Rattle.plchost.specs.Lines.{IsFeedless, last_line, lines_in, with_feeds};
+ghost use Rattle.plchost.specs.Lines.{last_line, lines_in, with_feeds};
+ghost use Rattle.answer_texts.specs.Lines.{IsFeedless};
 
 /// Lines that stand one after another, each with its line feed, and what stands behind the last of them, are read as these
 /// lines and that rest.

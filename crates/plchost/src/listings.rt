@@ -1,5 +1,6 @@
-ghost use Rattle.std.specs.Prelude.{◌≡◌, ℕ, List, ◌++◌, take, length, MatchResult};
-ghost use Rattle.plchost.specs.Listing.{value_text, line, lines, entries_of, listing};
+ghost use Rattle.std.specs.Prelude.{◌≡◌};
+ghost use Rattle.node_tree.specs.Appends.{Appends};
+ghost use Rattle.plchost.specs.Listing.{line, lines, entries_of, listing};
 
 use itoa::Buffer;
 use mspec_tree::Field;
@@ -8,9 +9,7 @@ use std::alloc::AllocError;
 
 /// Adds `NAME = VALUE` and a line's end. An `Err` leaves a text that begins as before.
 fn add_line(text: &mut Vec<u8>, name: &[u8], node: &Node) -> Result<(), AllocError>
-    ensures { MatchResult result
-        (λ _. text.new.items ≡ text.old.items ++ line name.now node.now)
-        (λ _. take (length text.old.items) text.new.items ≡ text.old.items) }
+    ensures { Appends result text.old.items text.new.items (line name.now node.now) }
 {
     text.extend_from_slice(name)?;
     text.extend_from_slice(b" = ")?;
@@ -23,9 +22,7 @@ fn add_line(text: &mut Vec<u8>, name: &[u8], node: &Node) -> Result<(), AllocErr
 
 /// Adds a line for each field in order.
 fn add_lines(text: &mut Vec<u8>, fields: &[Field], entries: &[Node]) -> Result<(), AllocError>
-    ensures { MatchResult result
-        (λ _. text.new.items ≡ text.old.items ++ lines fields.now entries.now)
-        (λ _. take (length text.old.items) text.new.items ≡ text.old.items) }
+    ensures { Appends result text.old.items text.new.items (lines fields.now entries.now) }
 {
     for (field, entry) in fields.iter().zip(entries) {
         add_line(text, field.name.as_slice(), entry)?;
@@ -45,9 +42,7 @@ fn entries_of(node: &Node) -> &[Node]
 
 /// Adds a value of a type with these fields, and an empty line. An `Err` leaves a text that begins as before.
 pub fn add_listing(text: &mut Vec<u8>, fields: &[Field], node: &Node) -> Result<(), AllocError>
-    ensures { MatchResult result
-        (λ _. text.new.items ≡ text.old.items ++ listing fields.now node.now)
-        (λ _. take (length text.old.items) text.new.items ≡ text.old.items) }
+    ensures { Appends result text.old.items text.new.items (listing fields.now node.now) }
 {
     add_lines(text, fields, entries_of(node))?;
     text.extend_from_slice(b"\n")

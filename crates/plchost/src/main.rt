@@ -1,5 +1,5 @@
-//! The program `plchost`: a compiler of mspec, the language of Apache PLC4X's protocol descriptions. So far it
-//! decodes captures by descriptions in the first form, and runs scripts of the request table.
+//! The program `plchost`: it decodes captures by descriptions in the first form of mspec, the language of Apache PLC4X's
+//! protocol descriptions, and runs scripts of the request table. It compiles nothing yet.
 #![tactic(auto)]
 
 mod closing;
@@ -16,6 +16,7 @@ mod replaying;
 mod replies;
 #[cfg(test)]
 mod script_tests;
+mod statuses;
 #[cfg(test)]
 mod tests;
 mod tokens;
@@ -23,12 +24,14 @@ mod tool;
 mod values;
 mod words;
 
+use faults::Cut;
 use link_io::{FileShelf, StdSink, StdSource, StringList};
+use std::alloc::{AllocError, Global};
 use std::io::ErrorKind;
 use std::process::ExitCode;
 use std::rt::Env;
 use std::{env, io};
-use tool::{NO_MEMORY, WORDS_REFUSED, finish, tool_main};
+use tool::{conclude, tool_main};
 
 /// The words behind the program's name. A word that isn't text is an error.
 fn read_words(rt: &(impl Env + AllocGlobal)) -> io::Result<StringList> {
@@ -39,9 +42,18 @@ fn read_words(rt: &(impl Env + AllocGlobal)) -> io::Result<StringList> {
     Ok(words)
 }
 
-/// The words, and the files that they may name.
-fn words_and_files(rt: HostRuntime) -> io::Result<(StringList, FileShelf<HostRuntime>)> {
-    let words = read_words(&rt)?;
+/// The words that were read, or none, which no command has, where one of them isn't text. An `Err` is want of memory.
+fn known_words(alloc: Global, read: io::Result<StringList>) -> Result<StringList, AllocError> {
+    match read {
+        Ok(words) => Ok(words),
+        Err(error) if matches!(error.kind(), ErrorKind::OutOfMemory) => Err(AllocError),
+        Err(_) => Ok(StringList::new(alloc)),
+    }
+}
+
+/// The words, and the files that they may name. An `Err` is want of memory.
+fn words_and_files(rt: HostRuntime) -> Result<(StringList, FileShelf<HostRuntime>), AllocError> {
+    let words = known_words(rt.alloc(), read_words(&rt))?;
     let files = FileShelf::new(rt, rt.alloc())?;
     Ok((words, files))
 }
@@ -53,10 +65,7 @@ fn main(rt: HostRuntime) -> ExitCode {
             let mut input = StdSource::new(rt.reader());
             tool_main(rt.alloc(), &words, &mut files, &mut input, &mut out)
         }
-        Err(error) if matches!(error.kind(), ErrorKind::OutOfMemory) => {
-            finish(&mut out, b"no memory\n", b"", NO_MEMORY)
-        }
-        Err(_) => finish(&mut out, b"words refused\n", b"", WORDS_REFUSED),
+        Err(AllocError) => conclude(&mut out, &[], Err(Cut::NoMemory)),
     };
     ExitCode::from(status)
 }

@@ -1,15 +1,17 @@
-ghost use Rattle.std.specs.Prelude.{◌≡◌, ◌<◌, ◌≤◌, ℕ, List, Some, Option, length, IfOk, IfErr, MatchOption};
+ghost use Rattle.std.specs.Prelude.{◌≡◌, ◌<◌, ◌≤◌, ◌⊎◌, ℕ, List, Some, Option, Err, length, IfOk, IfErr, IfSome, MatchOption};
+ghost use Rattle.std.specs.List.{position};
+ghost use Rattle.std.specs.Str.{bytes_eq};
+ghost use Rattle.link_io.specs.Streams.{LeavesFiles};
 ghost use Rattle.mspec_tree.specs.declared.defs.Description.{Description};
-ghost use Rattle.mspec_meaning.specs.Plain.{CanRead};
 ghost use Rattle.plchost.specs.Tool.{AreReplay, Names};
-ghost use Rattle.plchost.specs.Runs.{FileTaken, IsReady};
+ghost use Rattle.plchost.specs.Runs.{FileTaken, IsReady, LacksFile};
 ghost use Rattle.plchost.specs.Preparing.{ComesToRefusal, from_file, from_form};
 
 use crate::files::{FileFault, read_file};
 use crate::plain_types::{FormFault, first_form};
 use crate::words::decode_words;
 use link_io::{Shelf, StringList};
-use mspec_tree::Description;
+use mspec_tree::{Def, Description};
 use std::alloc::Global;
 
 /// What a run needs before it reads its input: a description, and the place of the type in it.
@@ -29,6 +31,14 @@ pub enum Refusal {
     NoMemory,
 }
 
+/// The place of the first definition of a name.
+fn place_of(defs: &[Def], name: &[u8]) -> Option<usize>
+    ensures first { result ≡ position (λ def. bytes_eq def.name name.now) defs.now }
+    ensures within { IfSome result (λ place. place < length defs.now) }
+{
+    defs.iter().position(|def| def.name.as_slice() == name)
+}
+
 /// The place of the definition of a name.
 fn def_named(d: &Description, name: &[u8]) -> Option<u16>
     requires { length d.now.defs ≤ 1024 }
@@ -36,12 +46,10 @@ fn def_named(d: &Description, name: &[u8]) -> Option<u16>
         ((def : ℕ) → Names d.now def name.now → ⊥)
         (λ def. Names d.now def name.now) }
 {
-    for (place, def) in d.defs.as_slice().iter().enumerate() {
-        if def.name.as_slice() == name {
-            return Some(place as u16);
-        }
+    match place_of(d.defs.as_slice(), name) {
+        Some(place) => Some(place as u16),
+        None => None,
     }
-    None
 }
 
 /// Reads the file that the words name and finds their type in it.
@@ -53,7 +61,8 @@ pub fn prepare<F: Shelf>(
     requires { AreReplay words.now → ⊥ }
     ensures ready { IfOk result (λ ready.
         IsReady words.now F.counts_with (F.seen files.old) (F.seen files.new) ready.description ready.def) }
-    ensures files { (other : List ℕ) → (F.seen files.new).file other ≡ (F.seen files.old).file other }
+    ensures files { LeavesFiles (F.seen files.old) (F.seen files.new) }
+    ensures lacking { LacksFile words.now (F.seen files.old) → (result ≡ Err Refusal.FileFault) ⊎ (result ≡ Err Refusal.NoMemory) }
     ensures refused { IfErr result (λ refusal. (file : Option (List ℕ))
         × FileTaken words.now F.counts_with (F.seen files.old) (F.seen files.new) file
         × ComesToRefusal words.now file refusal) }

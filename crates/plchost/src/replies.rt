@@ -1,4 +1,4 @@
-ghost use Rattle.std.specs.Prelude.{◌≡◌, ◌+◌, ◌⊎◌, ℕ, List, ◌++◌, true, false, Ok, Err, IfOk};
+ghost use Rattle.std.specs.Prelude.{◌≡◌, ◌+◌, ◌⊎◌, ℕ, List, ◌++◌, Ok, Err, IfOk};
 ghost use Rattle.link_io.specs.Counts.{Rose};
 ghost use Rattle.script_lines.specs.Scripts.{IsLine};
 ghost use Rattle.script_lines.specs.declared.commands.Command.{Command};
@@ -15,18 +15,25 @@ use script_lines::LineFault;
 use script_replay::{Replay, ScriptEnd};
 use std::alloc::Global;
 
-/// Takes the next line of a script, adds its answer to what is gathered, and puts that out once it is large. Tells whether
-/// the line is one; a line that isn't changes nothing.
+/// What came of a line of a script.
+#[derive(Clone, Copy, Debug, PartialEq, Eq)]
+enum LineOutcome {
+    Answered,
+    Refused,
+}
+
+/// Takes the next line of a script, adds its answer to what is gathered, and puts that out once it is large. A line that is
+/// refused changes nothing.
 fn put_answer<K: Sink>(
     replay: &mut Replay,
     out: &mut K,
     gathered: &mut Vec<u8>,
     line: &[u8],
-) -> Result<bool, Cut>
-    ensures answered { result ≡ Ok true → (command : Command) × IsLine replay.old.next line.now command
+) -> Result<LineOutcome, Cut>
+    ensures answered { result ≡ Ok LineOutcome.Answered → (command : Command) × IsLine replay.old.next line.now command
         × Adds (K.seen out.old).held (K.seen out.new).held gathered.old.items gathered.new.items (reply_text replay.old.conn command)
         × (replay.new ≡ after_line replay.old command) }
-    ensures refused { result ≡ Ok false → ((command : Command) → IsLine replay.old.next line.now command → ⊥)
+    ensures refused { result ≡ Ok LineOutcome.Refused → ((command : Command) → IsLine replay.old.next line.now command → ⊥)
         × ((K.seen out.new).held ≡ (K.seen out.old).held) × (gathered.new.items ≡ gathered.old.items) × (replay.new ≡ replay.old) }
     ensures no_fault { result ≡ Err Cut.WriteFault ⊎ ((K.seen out.new).faults ≡ (K.seen out.old).faults) }
     ensures no_memory { result ≡ Err Cut.NoMemory →
@@ -38,9 +45,9 @@ fn put_answer<K: Sink>(
     match replay.take_line(line, gathered) {
         Ok(()) => {
             put_large(out, gathered)?;
-            Ok(true)
+            Ok(LineOutcome::Answered)
         }
-        Err(LineFault::Refused) => Ok(false),
+        Err(LineFault::Refused) => Ok(LineOutcome::Refused),
         Err(LineFault::NoMemory) => Err(Cut::NoMemory),
     }
 }
@@ -68,14 +75,16 @@ pub fn put_answers<K: Sink>(
     let mut replay = Replay::new(alloc);
     let mut rest = bytes;
     while let Some((line, more)) = next_line(ended, rest) {
-        if !put_answer(&mut replay, out, gathered, line)? {
-            let line = replay.next();
-            return Ok(ScriptEnd::Refused { line });
+        match put_answer(&mut replay, out, gathered, line)? {
+            LineOutcome::Answered => rest = more,
+            LineOutcome::Refused => {
+                let line = replay.next_number();
+                return Ok(ScriptEnd::Refused { line });
+            }
         }
-        rest = more;
     }
     Ok(ScriptEnd::Answered {
-        next: replay.next(),
+        next: replay.next_number(),
         entries: replay.entries(),
     })
 }

@@ -1,8 +1,11 @@
 ghost use Rattle.std.specs.Prelude.{◌<◌};
 
+use crate::known_words;
 use crate::tool::tool_main;
 use link_io::{MemShelf, MemSink, MemSource, StringList};
 use std::alloc::{AllocError, Global};
+use std::io;
+use std::io::ErrorKind;
 use std::test::Fail;
 
 /// The file `p`, where a test names no other.
@@ -117,7 +120,7 @@ fn decodes_values_and_says_what_is_wrong(rt: HostRuntime) -> Result<(), Fail> {
 }
 
 #[test]
-fn refuses_words_and_files(rt: HostRuntime) -> Result<(), Fail> {
+fn refuses_words(rt: HostRuntime) -> Result<(), Fail> {
     let refused: [&[&str]; 12] = [
         &[],
         &["replay", "p"],
@@ -137,20 +140,38 @@ fn refuses_words_and_files(rt: HostRuntime) -> Result<(), Fail> {
         assert_eq!(rt; ran.text.as_slice(), b"words refused\n".as_slice());
         assert_eq!(rt; ran.status, 2);
     }
-    let ran = run(
-        rt.alloc(),
-        &["decode", "q", "P"],
-        P,
-        b"\x01",
-        NONE_FAILS,
-        100,
-    )?;
-    assert_eq!(rt; ran.text.as_slice(), b"file fault\n".as_slice());
-    assert_eq!(rt; ran.status, 3);
     Ok(())
 }
 
-/// Three values of two bytes each way, read and put out a byte at a time, where one call fails.
+#[test]
+fn a_word_that_is_no_text_is_refused(rt: HostRuntime) -> Result<(), Fail> {
+    let faulty = Err(io::Error::from(ErrorKind::InvalidData));
+    let words = known_words(rt.alloc(), faulty)?;
+    let mut files = MemShelf::new(Vec::new(rt.alloc()), Vec::new(rt.alloc()));
+    let mut source = MemSource::new(Vec::new(rt.alloc()), Vec::new(rt.alloc()));
+    let mut out = MemSink::new(rt.alloc(), OUT_ROOM, Vec::new(rt.alloc()))?;
+    let status = tool_main(rt.alloc(), &words, &mut files, &mut source, &mut out);
+    assert_eq!(rt; out.bytes(), b"words refused\n".as_slice());
+    assert_eq!(rt; status, 2);
+    let read = string_list(rt.alloc(), &["replay"])?;
+    assert_eq!(rt; known_words(rt.alloc(), Ok(read))?.get(0), Some("replay"));
+    let wanting = Err(io::Error::from(ErrorKind::OutOfMemory));
+    assert!(rt; known_words(rt.alloc(), wanting).is_err());
+    Ok(())
+}
+
+#[test]
+fn a_file_that_there_is_not_is_a_file_fault(rt: HostRuntime) -> Result<(), Fail> {
+    for name in ["q", "P", "pp"] {
+        let words = ["decode", name, "P"];
+        let ran = run(rt.alloc(), &words, P, b"\x01", NONE_FAILS, 100)?;
+        assert_eq!(rt; ran.text.as_slice(), b"file fault\n".as_slice());
+        assert_eq!(rt; ran.status, 3);
+    }
+    Ok(())
+}
+
+/// Three values of one byte, read and put out a byte at a time, where one call fails.
 fn run_failing(alloc: Global, failing: Failing<'_>) -> Result<Ran, AllocError> {
     run(
         alloc,
@@ -175,8 +196,7 @@ fn a_fault_at_each_call_has_its_status(rt: HostRuntime) -> Result<(), Fail> {
             },
         )?;
         let values = 7 * (at as usize - 1);
-        assert!(rt; values <= 21);
-        let mut want = Vec::from_slice(rt.alloc(), &whole[..values])?;
+        let mut want = Vec::from_slice(rt.alloc(), whole.get(..values).ok_or("short")?)?;
         want.extend_from_slice(b"read fault\n")?;
         assert_eq!(rt; ran.text.as_slice(), want.as_slice(), "read {at}");
         assert_eq!(rt; ran.status, 4);
@@ -206,9 +226,8 @@ fn a_fault_at_each_call_has_its_status(rt: HostRuntime) -> Result<(), Fail> {
                 ..NONE_FAILS
             },
         )?;
-        let put = at as usize - 1;
-        assert!(rt; put <= 21);
-        assert_eq!(rt; ran.text.as_slice(), &whole[..put], "write {at}");
+        let put = whole.get(..at as usize - 1).ok_or("short")?;
+        assert_eq!(rt; ran.text.as_slice(), put, "write {at}");
         assert_eq!(rt; ran.status, 5);
     }
     let ran = run_failing(

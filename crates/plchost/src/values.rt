@@ -1,11 +1,10 @@
-ghost use Rattle.std.specs.Prelude.{◌≡◌, ◌+◌, ◌*◌, ◌≤◌, ◌⊎◌, ℕ, ℤ, List, [], ◌++◌, length, Some, Ok, Err, IfOk, OnOk, slice_get, IsTrue};
+ghost use Rattle.std.specs.Prelude.{◌≡◌, ◌+◌, ◌*◌, ◌≤◌, ◌⊎◌, List, [], ◌++◌, length, Some, Ok, Err, IfOk, OnOk};
 ghost use Rattle.node_tree.specs.declared.readings.Reading.{Reading};
-ghost use Rattle.mspec_tree.specs.declared.defs.Def.{Def};
 ghost use Rattle.mspec_meaning.specs.Plain.{CanRead};
 ghost use Rattle.mspec_meaning.specs.Stream.{Stream, Ending};
 ghost use Rattle.link_io.specs.Counts.{Rose};
 ghost use Rattle.plchost.specs.Listing.{listing, fields_at};
-ghost use Rattle.plchost.specs.Tool.{listings, input_limit};
+ghost use Rattle.plchost.specs.Tool.{listings};
 ghost use Rattle.plchost.specs.Runs.{Adds, PutsFront};
 ghost use Rattle.plchost.specs.Endings.{ending_of, fault_rest};
 

@@ -1,4 +1,4 @@
-ghost use Rattle.std.specs.Prelude.{◌≡◌, ℕ, List, [], ◌∷◌, IsTrue, ◌↔◌, MatchOption};
+ghost use Rattle.std.specs.Prelude.{ℕ, List, [], IsTrue, ◌↔◌, MatchOption};
 ghost use Rattle.plchost.specs.Tool.{AreDecode, AreReplay, IsPositional};
 
 use link_io::StringList;

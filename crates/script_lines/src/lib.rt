@@ -10,4 +10,4 @@ mod tests;
 mod words;
 
 pub use commands::{Call, Command, LineFault};
-pub use reading::{one_command, read_command};
+pub use reading::{command_or_none, one_command, read_command};

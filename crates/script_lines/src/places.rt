@@ -15,7 +15,7 @@ const LEASE_MS: u32 = 60_000;
 fn is_further(number: u64) -> bool
     ensures { result ≡ is_further number }
 {
-    3 <= number && number <= MAX_LINES
+    (3..=MAX_LINES).contains(&number)
 }
 
 fn is_call_at(number: u64, call: &Call) -> bool

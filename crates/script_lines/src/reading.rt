@@ -1,4 +1,4 @@
-ghost use Rattle.std.specs.Prelude.{◌≡◌, ℕ, List, Err, IfOk};
+ghost use Rattle.std.specs.Prelude.{◌≡◌, ◌⊎◌, ℕ, List, Err, IfOk};
 ghost use Rattle.script_lines.specs.Scripts.{IsLine};
 ghost use Rattle.script_lines.specs.declared.commands.Command.{Command};
 
@@ -11,6 +11,12 @@ use std::alloc::Global;
 /// A line is at most one command.
 pub fn one_command()
     ensures { (n : ℕ) (line : List ℕ) (command other : Command) → IsLine n line command → IsLine n line other → command ≡ other }
+{}
+
+/// A line is a command at its number, or none is.
+pub fn command_or_none()
+    ensures { (n : ℕ) (line : List ℕ)
+        → ((command : Command) × IsLine n line command) ⊎ ((command : Command) → IsLine n line command → ⊥) }
 {}
 
 /// Reads the line with this number, counted from 1, as a command of a script in the first form. The line is without

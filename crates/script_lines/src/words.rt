@@ -37,12 +37,7 @@ pub fn read_within(word: &[u8], low: u64, high: u64) -> Option<u64>
     ensures read { result ≡ within_of low high word.now }
     ensures within { IfSome result (λ n. (low ≤ n) × (n ≤ high)) }
 {
-    let number = read_number(word)?;
-    if low <= number && number <= high {
-        Some(number)
-    } else {
-        None
-    }
+    read_number(word).filter(|number| (low..=high).contains(number))
 }
 
 /// The bytes of one or more pairs of hexadecimal digits.

@@ -1,113 +1,71 @@
--- The steps of a script's calls leave an open table open.
-use Rattle.std.proofs.Common.{◌≡◌, ℕ, ◌==◌, Bool, true, false, IsTrue, List, [], ◌∷◌, Option, Some, None, Result, Ok, Err, length, refl, nat_lt, count_by}
-use Rattle.std.specs.Prelude.{◌&&◌, if◌then◌else◌}
+-- The entries of a script's calls don't close their connection.
+use Rattle.std.proofs.Common.{◌≡◌, ℕ, Bool, true, false, IsTrue, List, Option, Some, None, Ok, Err, refl, ap, subst}
+use Rattle.std.specs.Prelude.{if◌then◌else◌}
 use Rattle.std.specs.List.{find}
 use Rattle.node_tree.specs.declared.readings.Reading.{Reading}
 use Rattle.wire_frames.specs.RawFrames.{is_whole, raw_meaning, raw_reading, stated_length}
 use Rattle.wire_frames.specs.declared.ends.FrameWhy.TheVariants.{Length}
 use Rattle.wire_frames.specs.declared.ends.Reason.{Reason}
-use Rattle.conn_core.specs.Steps.{Request, apply_frame, arrived, ask_lease, asked_if, cancel, cancel_row, collect, collect_row, counted, prepared, received, submit, taken, take_send, when_open, with_cancelled, with_collected, with_frame, with_queued, with_queued_frame, with_reference, without_row}
-use Rattle.conn_core.specs.Tables.{Table, at_moment, is_queued, is_reference, is_row_of, is_sent, is_sent_with}
-use Rattle.conn_core.specs.declared.answers.AskRefusal.TheVariants as asks
-use Rattle.conn_core.specs.declared.answers.SendRefusal.TheVariants as sends
-use Rattle.conn_core.specs.declared.answers.SubmitRefusal.{SubmitRefusal}
+use Rattle.wire_frames.specs.declared.raw.RawWire.{RawWire}
+use Rattle.conn_core.specs.Entries.{closing_reason, frame_reason}
+use Rattle.conn_core.specs.States.{State, connection_of, table_in}
+use Rattle.conn_core.specs.Steps.{arrived, counted, frame_answer, received, step, taken, when_open, without_row}
+use Rattle.conn_core.specs.Tables.{Table, is_reference, is_sent_with}
+use Rattle.conn_core.specs.declared.answers.FrameAnswer.{FrameAnswer}
+use Rattle.conn_core.specs.declared.answers.FrameRefusal.TheVariants as frames
 use Rattle.conn_core.specs.declared.entries.Answer.{Answer}
-use Rattle.conn_core.specs.declared.rows.Phase.{Phase}
-use Rattle.conn_core.specs.declared.rows.Phase.TheVariants.{Queued, Sent, Ended}
 use Rattle.conn_core.specs.declared.rows.Row.{Row}
-use Rattle.conn_core.specs.declared.settings.Settings.{Settings}
+use Rattle.conn_core.proofs.FollowLemmas.{step_open}
+use Rattle.script_lines.specs.Scripts.{IsCallAt}
+use Rattle.script_lines.specs.declared.commands.Call.{Call}
+use Rattle.script_lines.specs.declared.commands.Call.TheVariants.{AskLease, Submit, TakeSend, Frame, Cancel, Collect}
+use Rattle.script_replay.specs.Replays.{actor_of, event_of, raw}
 
--- a step that is taken leaves the table as open or closed as it was
-abbrev pub Keeps : {A E : Type 0} → Table → Result (Table × A) E → Type 0
-Keeps t (Ok p) = p.0.closed ≡ t.closed
-Keeps t (Err refusal) = Unit {0}
+late_or_stray : (t : Table) (reference : ℕ) (o : Option ℕ) → frame_reason (frame_answer (counted (without_row t reference o)).1) ≡ None
+late_or_stray t reference None = refl
+late_or_stray t reference (Some r) = refl
 
+frame_arrives : (t : Table) (reference : ℕ) (reading : Reading) (o : Option Row) → frame_reason (frame_answer (counted (arrived raw_meaning t reference reading o)).1) ≡ None
+frame_arrives t reference reading None = late_or_stray t reference (find (is_reference reference) t.quarantined)
+frame_arrives t reference reading (Some row) = refl
+
+-- a whole raw frame can be read
+whole_arrives : (t : Table) (bytes : List ℕ) (b : Bool) → IsTrue b → frame_reason (frame_answer (received raw_meaning t bytes (if b then Ok (raw_reading bytes) else Err (Length (stated_length bytes)))).1) ≡ None
+whole_arrives t bytes true h =
+    let reference = raw_meaning.reference_of bytes in frame_arrives t reference (raw_reading bytes) (find (is_sent_with reference) t.rows)
+whole_arrives t bytes false h = absurd (cc)
+
+-- what a frame is answered that was taken
+answered_frame : (closed : Option Reason) (p : Table × FrameAnswer) (u : Table) (answer : Answer) → taken frame_answer (when_open frames.Closed closed (Ok p)) ≡ Some (u, answer) → frame_reason (frame_answer p.1) ≡ None → frame_reason answer ≡ None
+answered_frame None p u answer is none =
+    let both : ◌≡◌ {A = Option (Table × Answer)} (Some (p.0, frame_answer p.1)) (Some (u, answer)) = is in
+    let same : ◌≡◌ {A = Table × Answer} (p.0, frame_answer p.1) (u, answer) = cc in
+    subst (λ (a : Answer). frame_reason a ≡ None) (ap (λ (q : Table × Answer). q.1) same) none
+answered_frame (Some reason) p u answer is none = absurd (cc)
+
+-- no entry of a call closes
+closes_nothing : (n : ℕ) (st : State RawWire) (call : Call) (u : Table) (answer : Answer) → IsCallAt n call → step (connection_of raw st.key) (table_in raw st) (actor_of call) (event_of call) ≡ Some (u, answer) → closing_reason (record { actor = actor_of call; event = event_of call; answer = answer }) ≡ None
+closes_nothing n st (AskLease caller now) u answer here is = refl
+closes_nothing n st (Submit caller lease now timeout payload) u answer here is = refl
+closes_nothing n st TakeSend u answer here is = refl
+closes_nothing n st (Frame bytes) u answer here is =
+    let t = table_in raw st in
+    answered_frame t.closed (received raw_meaning t bytes (raw_meaning.reading_of bytes)) u answer is (whole_arrives t bytes (is_whole bytes) here.1)
+closes_nothing n st (Cancel caller id) u answer here is = refl
+closes_nothing n st (Collect caller id) u answer here is = refl
+
+-- a table that a step gives is as open or closed as the one before
 abbrev pub KeepsStep : Table → Option (Table × Answer) → Type 0
 KeepsStep t None = Unit {0}
 KeepsStep t (Some p) = p.0.closed ≡ t.closed
 
-pub taken_keeps : {A E : Type 0} (t : Table) (f : A → Answer) (w : Result (Table × A) E) → Keeps t w → KeepsStep t (taken f w)
-taken_keeps t f (Ok p) h = h
-taken_keeps t f (Err refusal) h = tt
+keeps_by : (t : Table) (o : Option (Table × Answer)) → ((u : Table) (answer : Answer) → o ≡ Some (u, answer) → u.closed ≡ t.closed) → KeepsStep t o
+keeps_by t None each = tt
+keeps_by t (Some p) each = each p.0 p.1 refl
 
-when_open_keeps : {A E : Type 0} (t : Table) (refusal : Reason → E) (closed : Option Reason) (w : Result (Table × A) E) → Keeps t w → Keeps t (when_open refusal closed w)
-when_open_keeps t refusal None w h = h
-when_open_keeps t refusal (Some reason) w h = tt
-
-if_keeps : {A E : Type 0} (t : Table) (b : Bool) (w : Result (Table × A) E) (e : E) → Keeps t w → Keeps t (if b then w else Err e)
-if_keeps t true w e h = h
-if_keeps t false w e h = tt
-
-asked_keeps : (s : Settings) (t : Table) (actor now : ℕ) (b : Bool) → (asked_if b s (at_moment now t) actor).0.closed ≡ t.closed
-asked_keeps s t actor now true = refl
-asked_keeps s t actor now false = refl
-
-pub ask_keeps : (s : Settings) (t : Table) (actor now : ℕ) → Keeps t (ask_lease s t actor now)
-ask_keeps s t actor now =
-    when_open_keeps t asks.Closed t.closed _
-    (if_keeps t (nat_lt (length t.waiting) 64) _ asks.QueueFull (asked_keeps s t actor now (nat_lt (length t.held) s.share && (length t.waiting == 0))))
-
-reference_keeps : (t : Table) (q : Request) (frame : List ℕ) (free : List ℕ) → Keeps t (with_reference t q frame free)
-reference_keeps t q frame [] = tt
-reference_keeps t q frame (reference ∷ rest) = refl
-
-frame_keeps : (t : Table) (q : Request) (w : Result (List ℕ) SubmitRefusal) → Keeps t (with_frame t q w)
-frame_keeps t q (Ok frame) = reference_keeps t q frame t.free
-frame_keeps t q (Err refusal) = tt
-
-pub submit_keeps : (t : Table) (q : Request) → Keeps t (submit raw_meaning t q)
-submit_keeps t q = frame_keeps t q (prepared raw_meaning t q)
-
-sent_keeps : (t : Table) (row : Row) (phase : Phase) → Keeps t (with_queued_frame t row phase)
-sent_keeps t row (Queued frame) = refl
-sent_keeps t row Sent = tt
-sent_keeps t row (Ended outcome) = tt
-
-queued_keeps : (t : Table) (o : Option Row) → Keeps t (with_queued t o)
-queued_keeps t None = tt
-queued_keeps t (Some row) = sent_keeps t row row.phase
-
-pub send_keeps : (s : Settings) (t : Table) → Keeps t (take_send s t)
-send_keeps s t =
-    when_open_keeps t sends.Closed t.closed _ (if_keeps t (nat_lt (count_by is_sent t.rows) s.window) _ sends.Nothing (queued_keeps t (find is_queued t.rows)))
-
-late_keeps : (t : Table) (reference : ℕ) (o : Option ℕ) → (counted (without_row t reference o)).0.closed ≡ t.closed
-late_keeps t reference None = refl
-late_keeps t reference (Some r) = refl
-
-arrived_keeps : (t : Table) (reference : ℕ) (reading : Reading) (o : Option Row) → (counted (arrived raw_meaning t reference reading o)).0.closed ≡ t.closed
-arrived_keeps t reference reading None = late_keeps t reference (find (is_reference reference) t.quarantined)
-arrived_keeps t reference reading (Some row) = refl
-
--- a whole raw frame can be read
-whole_keeps : (t : Table) (bytes : List ℕ) (b : Bool) → IsTrue b → (received raw_meaning t bytes (if b then Ok (raw_reading bytes) else Err (Length (stated_length bytes)))).0.closed ≡ t.closed
-whole_keeps t bytes true h =
-    let reference = raw_meaning.reference_of bytes in arrived_keeps t reference (raw_reading bytes) (find (is_sent_with reference) t.rows)
-whole_keeps t bytes false h = absurd (cc)
-
-pub received_keeps : (t : Table) (bytes : List ℕ) → IsTrue (is_whole bytes) → Keeps t (apply_frame raw_meaning t bytes)
-received_keeps t bytes whole = when_open_keeps t _ t.closed _ (whole_keeps t bytes (is_whole bytes) whole)
-
-cancelled_keeps : (t : Table) (actor id : ℕ) (row : Row) (phase : Phase) → Keeps t (cancel_row t actor id row phase)
-cancelled_keeps t actor id row (Queued frame) = refl
-cancelled_keeps t actor id row Sent = refl
-cancelled_keeps t actor id row (Ended outcome) = tt
-
-found_cancel_keeps : (t : Table) (actor id : ℕ) (o : Option Row) → Keeps t (with_cancelled t actor id o)
-found_cancel_keeps t actor id None = tt
-found_cancel_keeps t actor id (Some row) = cancelled_keeps t actor id row row.phase
-
-pub cancel_keeps : (t : Table) (actor id : ℕ) → Keeps t (cancel t actor id)
-cancel_keeps t actor id = found_cancel_keeps t actor id (find (is_row_of actor id) t.rows)
-
-collected_keeps : (t : Table) (actor id : ℕ) (phase : Phase) → Keeps t (collect_row t actor id phase)
-collected_keeps t actor id (Queued frame) = tt
-collected_keeps t actor id Sent = tt
-collected_keeps t actor id (Ended outcome) = refl
-
-found_collect_keeps : (t : Table) (actor id : ℕ) (o : Option Row) → Keeps t (with_collected t actor id o)
-found_collect_keeps t actor id None = tt
-found_collect_keeps t actor id (Some row) = collected_keeps t actor id row.phase
-
-pub collect_keeps : (t : Table) (actor id : ℕ) → Keeps t (collect t actor id)
-collect_keeps t actor id = found_collect_keeps t actor id (find (is_row_of actor id) t.rows)
+pub call_keeps : (n : ℕ) (st : State RawWire) (call : Call) → IsCallAt n call → KeepsStep (table_in raw st) (step (connection_of raw st.key) (table_in raw st) (actor_of call) (event_of call))
+call_keeps n st call here =
+    let c = connection_of raw st.key in
+    let t = table_in raw st in
+    keeps_by t (step c t (actor_of call) (event_of call))
+    (λ u answer is. step_open c t (record { actor = actor_of call; event = event_of call; answer = answer }) u is (closes_nothing n st call u answer here is))

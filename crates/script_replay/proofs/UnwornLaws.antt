@@ -7,10 +7,9 @@ use Rattle.wire_frames.specs.declared.asks.Ask.TheVariants.{Raw}
 use Rattle.wire_frames.specs.declared.raw.RawWire.{RawWire}
 use Rattle.conn_core.specs.Journals.{opened as nothing_yet, turned, is_worn, settled, settled_if, table_of, turn_if, turn_of, wears}
 use Rattle.conn_core.specs.States.{State, connection_of, grown, table_in}
-use Rattle.conn_core.specs.Steps.{asked_answer, frame_answer, started_answer, step}
+use Rattle.conn_core.specs.Steps.{step}
 use Rattle.conn_core.specs.Tables.{IsSettings, Table, is_open}
 use Rattle.conn_core.specs.declared.entries.Answer.{Answer}
-use Rattle.conn_core.specs.declared.entries.Answer.TheVariants as answers
 use Rattle.conn_core.specs.declared.entries.Entry.{Entry}
 use Rattle.conn_core.specs.declared.entries.Event.{Event}
 use Rattle.conn_core.specs.declared.settings.Settings.{Settings}
@@ -22,14 +21,14 @@ use Rattle.script_lines.specs.declared.commands.Command.{Command}
 use Rattle.script_lines.specs.declared.commands.Command.TheVariants.{Table as TableLine, Calls}
 use Rattle.script_replay.specs.Replays.{IsUnworn, actor_of, after_call, after_command, event_of, opened, raw, stepped}
 use Rattle.script_replay.specs.Timed.{IsInRanges}
-use Rattle.script_replay.proofs.OpenLaws.{KeepsStep, taken_keeps, ask_keeps, submit_keeps, send_keeps, received_keeps, cancel_keeps, collect_keeps}
+use Rattle.script_replay.proofs.OpenLaws.{KeepsStep, call_keeps}
 
 -- a connection behind its first line, and none before it
 abbrev pub IsSound : ℕ → Option (State RawWire) → Type 0
 IsSound n conn = MatchOption conn (n ≡ 1) (λ st. IsUnworn n st)
 
 pub further : (n : ℕ) (st : State RawWire) → n ≤ 63 → IsUnworn n st → IsUnworn (n + 1) st
-further n st last h = record { legal = h.legal; few = let few = h.few in omega arith; last = omega arith; limit = h.limit; unclosed = h.unclosed }
+further n st last h = record { legal = h.legal; few = let few = h.few in omega arith; last = omega arith; limit = h.limit; below = h.below; unclosed = h.unclosed }
 
 -- a journal with fewer entries than its limit isn't closed for its length
 not_full : (s : Settings) (n : ℕ) (t : Table) → n ≢ s.journal → wears s n t ≡ false
@@ -57,26 +56,18 @@ grown_unworn n st actor event (Some p) steps plain keeps last h =
       few = omega arith;
       last = omega arith;
       limit = h.limit;
+      below = omega arith;
       unclosed = ap (λ t. t.closed) (table ∙ ap (λ b. settled_if b p.0) unfilled) ∙ keeps ∙ h.unclosed;
     }
 
 -- each call behind the table line stands at the second line or behind it, and up to the 63rd
-call_place : (n : ℕ) (call : Call) → IsCallAt n call → (2 ≤ n) × (n ≤ 63)
+pub call_place : (n : ℕ) (call : Call) → IsCallAt n call → (2 ≤ n) × (n ≤ 63)
 call_place n (AskLease caller now) h = (omega arith, omega arith)
 call_place n (Submit caller lease now timeout payload) h = (omega arith, omega arith)
 call_place n TakeSend h = (omega arith, omega arith)
 call_place n (Frame bytes) h = (omega arith, omega arith)
 call_place n (Cancel caller id) h = (omega arith, omega arith)
 call_place n (Collect caller id) h = (omega arith, omega arith)
-
-call_keeps : (n : ℕ) (st : State RawWire) (call : Call) → IsCallAt n call → KeepsStep (table_in raw st) (step (connection_of raw st.key) (table_in raw st) (actor_of call) (event_of call))
-call_keeps n st (AskLease caller now) h = taken_keeps (table_in raw st) asked_answer _ (ask_keeps st.key.settings (table_in raw st) caller now)
-call_keeps n st (Submit caller lease now timeout payload) h =
-    taken_keeps (table_in raw st) started_answer _ (submit_keeps (table_in raw st) (record { actor = caller; lease = lease; ask = Raw payload; timeout = timeout; moment = now }))
-call_keeps n st TakeSend h = taken_keeps (table_in raw st) (λ sending. answers.Sent sending.id) _ (send_keeps st.key.settings (table_in raw st))
-call_keeps n st (Frame bytes) h = taken_keeps (table_in raw st) frame_answer _ (received_keeps (table_in raw st) bytes h.1)
-call_keeps n st (Cancel caller id) h = taken_keeps (table_in raw st) (λ _. answers.Cancelled) _ (cancel_keeps (table_in raw st) caller id)
-call_keeps n st (Collect caller id) h = taken_keeps (table_in raw st) (λ outcome. answers.Collected outcome.kind) _ (collect_keeps (table_in raw st) caller id)
 
 call_plain : (call : Call) → is_worn (event_of call) ≡ false
 call_plain (AskLease caller now) = refl
@@ -109,7 +100,7 @@ pub opened_unworn : (n : ℕ) (s : Settings) → IsSettings s → n ≡ 1 → Is
 unfolding table_of
 opened_unworn n s settings first =
     let journal = settings.journal in
-    record { legal = nothing_yet; few = omega arith; last = omega arith; limit = omega arith; unclosed = refl }
+    record { legal = nothing_yet; few = omega arith; last = omega arith; limit = omega arith; below = omega arith; unclosed = refl }
 
 -- each line leads from a sound place to the next
 pub line_sound : (n : ℕ) (conn : Option (State RawWire)) (command : Command) → IsInRanges command → IsAt n command → IsSound n conn → IsSound (n + 1) (after_command conn command)

@@ -1,5 +1,5 @@
 -- What the lines of a script are answered, by the steps of the request table over the raw wire.
-use Rattle.std.specs.Prelude.{◌≡◌, ◌⊎◌, ℕ, ◌+◌, ◌≤◌, if◌then◌else◌, List, [], ◌∷◌, ◌++◌, length, codes, Option, Some, None}
+use Rattle.std.specs.Prelude.{◌≡◌, ◌⊎◌, ℕ, ◌+◌, ◌-◌, ◌<◌, ◌≤◌, if◌then◌else◌, List, [], ◌∷◌, ◌++◌, length, codes, Option, Some, None}
 use Rattle.wire_frames.specs.RawFrames.{raw_admits, raw_meaning}
 use Rattle.wire_frames.specs.WireMeaning.{WireMeaning}
 use Rattle.wire_frames.specs.declared.asks.Ask.TheVariants.{Raw}
@@ -117,6 +117,7 @@ pub record IsUnworn (next : ℕ) (st : State RawWire) : Type 0 where
   pub few : length st.journal + 2 ≤ next
   pub last : next ≤ 64
   pub limit : 64 ≤ st.key.settings.journal
+  pub below : length st.journal < st.key.settings.journal
   pub unclosed : (table_in raw st).closed ≡ None
 
 -- From the line with this number on, these lines are answered by this text, up to the first that is refused.
@@ -129,3 +130,8 @@ Replies n conn (line ∷ lines) text end =
 -- a script, from its first line on
 abbrev pub Script : List (List ℕ) → (text : List ℕ) → ScriptEnd → Type 0
 Script lines text end = Replies 1 None lines text end
+
+-- how many answers a script has, by how its lines end: one for each line that was taken but the first
+abbrev pub answers_by : ScriptEnd → ℕ
+answers_by (Answered next entries) = next - 2
+answers_by (Refused line) = line - 2

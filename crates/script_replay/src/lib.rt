@@ -8,5 +8,8 @@ mod replies;
 #[cfg(test)]
 mod tests;
 
-pub use laws::{one_script, stays_open};
+pub use laws::{
+    answered_line_by_line, fronts_are_answered, one_script, refused_behind_answered, some_script,
+    stays_open,
+};
 pub use replays::{Replay, ScriptEnd};

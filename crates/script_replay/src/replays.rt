@@ -54,7 +54,7 @@ impl Replay {
     }
 
     /// The number of the next line.
-    pub fn next(&self) -> u64
+    pub fn next_number(&self) -> u64
         ensures { result ≡ self.now.next }
     {
         self.next

@@ -1,4 +1,5 @@
-ghost use Rattle.std.specs.Prelude.{◌≡◌, ◌++◌, take, length, codes, MatchResult};
+ghost use Rattle.std.specs.Prelude.{◌++◌, codes};
+ghost use Rattle.node_tree.specs.Appends.{Appends, AppendsOrKeeps};
 ghost use Rattle.script_replay.specs.ReplyTexts.{spelled, spelled_line};
 
 use answer_texts::{
@@ -24,9 +25,7 @@ pub(crate) enum Reply {
 }
 
 fn add_text(text: &mut Vec<u8>, reply: &Reply) -> Result<(), AllocError>
-    ensures { MatchResult result
-        (λ _. text.new.items ≡ text.old.items ++ spelled reply.now)
-        (λ _. take (length text.old.items) text.new.items ≡ text.old.items) }
+    ensures { AppendsOrKeeps result text.old.items text.new.items (spelled reply.now) }
 {
     match reply {
         Reply::Asked(answer) => add_asked(text, answer),
@@ -41,9 +40,7 @@ fn add_text(text: &mut Vec<u8>, reply: &Reply) -> Result<(), AllocError>
 
 /// Adds the text of a reply and a line feed. An `Err` leaves a text that begins as before.
 fn add_text_line(text: &mut Vec<u8>, reply: &Reply) -> Result<(), AllocError>
-    ensures { MatchResult result
-        (λ _. text.new.items ≡ text.old.items ++ spelled reply.now ++ codes "\n")
-        (λ _. take (length text.old.items) text.new.items ≡ text.old.items) }
+    ensures { Appends result text.old.items text.new.items (spelled reply.now ++ codes "\n") }
 {
     add_text(text, reply)?;
     text.extend_from_slice(b"\n")
@@ -51,9 +48,7 @@ fn add_text_line(text: &mut Vec<u8>, reply: &Reply) -> Result<(), AllocError>
 
 /// Adds the line of a reply, if there is one. An `Err` changes nothing.
 pub(crate) fn add_line(text: &mut Vec<u8>, reply: &Option<Reply>) -> Result<(), AllocError>
-    ensures { MatchResult result
-        (λ _. text.new.items ≡ text.old.items ++ spelled_line reply.now)
-        (λ _. text.new.items ≡ text.old.items) }
+    ensures { AppendsOrKeeps result text.old.items text.new.items (spelled_line reply.now) }
 {
     let Some(reply) = reply else {
         return Ok(());

@@ -11,13 +11,13 @@ fn run_lines(alloc: Global, lines: &[&[u8]]) -> Result<(Vec<u8>, ScriptEnd), Lin
         match replay.take_line(line, &mut text) {
             Ok(()) => {}
             Err(LineFault::Refused) => {
-                let line = replay.next();
+                let line = replay.next_number();
                 return Ok((text, ScriptEnd::Refused { line }));
             }
             Err(LineFault::NoMemory) => return Err(LineFault::NoMemory),
         }
     }
-    let next = replay.next();
+    let next = replay.next_number();
     let entries = replay.entries();
     Ok((text, ScriptEnd::Answered { next, entries }))
 }

@@ -13,6 +13,16 @@ use Rattle.wire_frames.specs.declared.ends.Outcome.{Outcome}
 use Rattle.wire_frames.specs.declared.kinds.PlcValue.TheVariants.{Whole}
 use Rattle.wire_frames.specs.declared.wires.LengthRule.TheVariants as rules
 
+-- how many bytes stand before the payload, and how many a frame and a payload have at most
+abbrev pub head_size : ℕ
+head_size = 4
+
+abbrev pub frame_limit : ℕ
+frame_limit = 4096
+
+abbrev pub payload_limit : ℕ
+payload_limit = 4092
+
 -- the number of the two bytes from `at` on, the higher one first
 abbrev pub number_at : List ℕ → ℕ → ℕ
 number_at frame at = from_be_bytes w16 (slice_index frame at ∷ slice_index frame (at + 1) ∷ [])
@@ -21,16 +31,16 @@ number_at frame at = from_be_bytes w16 (slice_index frame at ∷ slice_index fra
 abbrev pub stated_length : List ℕ → ℕ
 stated_length frame = if nat_lt (length frame) 2 then 0 else number_at frame 0
 
--- it is whole where it has as many bytes as it states, from 4 to 4096
+-- it is whole where it has as many bytes as it states, at least those before its payload and at most the limit
 abbrev pub is_whole : List ℕ → Bool
-is_whole frame = (stated_length frame == length frame) && (nat_le 4 (length frame) && nat_le (length frame) 4096)
+is_whole frame = (stated_length frame == length frame) && (nat_le head_size (length frame) && nat_le (length frame) frame_limit)
 
 abbrev pub raw_frame : List ℕ → ℕ → List ℕ
-raw_frame payload reference = to_be_bytes w16 (length payload + 4) ++ to_be_bytes w16 reference ++ payload
+raw_frame payload reference = to_be_bytes w16 (length payload + head_size) ++ to_be_bytes w16 reference ++ payload
 
--- one node, the payload, which begins behind the first 32 bits
+-- one node, the payload, which begins behind the 32 bits of length and reference
 abbrev pub raw_reading : List ℕ → Reading
-raw_reading frame = record { node = Blob (drop 4 frame); bits = 8 * length frame; spans = record { from = 32; to = 8 * length frame } ∷ [] }
+raw_reading frame = record { node = Blob (drop head_size frame); bits = 8 * length frame; spans = record { from = 32; to = 8 * length frame } ∷ [] }
 
 -- one row of values, the bytes
 abbrev pub done_bytes : List ℕ → Outcome
@@ -49,7 +59,7 @@ payload_of (Blob payload) = payload
 payload_of _ = []
 
 abbrev pub raw_admits : Ask → Bool
-raw_admits (asks.Raw payload) = nat_le (length payload) 4092
+raw_admits (asks.Raw payload) = nat_le (length payload) payload_limit
 raw_admits (asks.Read items) = false
 raw_admits (asks.Write items values) = false
 
@@ -63,8 +73,8 @@ abbrev pub raw_meaning : WireMeaning
 raw_meaning = record {
   rule = rules.Raw;
   admits = raw_admits;
-  size = λ ask. length (asked_payload ask) + 4;
-  limit = 4096;
+  size = λ ask. length (asked_payload ask) + head_size;
+  limit = frame_limit;
   frame_of = λ ask reference. Ok (raw_frame (asked_payload ask) reference);
   reading_of = λ frame. if is_whole frame then Ok (raw_reading frame) else Err (Length (stated_length frame));
   reference_of = λ frame. number_at frame 2;

@@ -72,3 +72,7 @@ IsReplyWith ask (Lost reason) values = ⊥
 -- an outcome of a reply, by its kind and values
 abbrev pub IsReplyKind : Ask → Outcome → Type 0
 IsReplyKind ask outcome = IsReplyWith ask outcome.kind outcome.values
+
+-- an outcome has values only where it is done
+abbrev pub HasValuesOnlyIfDone : Outcome → Type 0
+HasValuesOnlyIfDone outcome = (outcome.kind ≡ Done) ⊎ (outcome.values ≡ [])

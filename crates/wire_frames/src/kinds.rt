@@ -1,4 +1,4 @@
-/// The types of values that a controller keeps.
+/// The types of values that a controller keeps: elementary data types of IEC 61131-3, by their names there.
 #[derive(Clone, Copy, Debug, PartialEq, Eq)]
 pub enum PlcType {
     Bool,
@@ -31,8 +31,9 @@ pub enum Area {
     S7Block,
 }
 
-/// `count` values of one type that lie one after another from `start` on. `block` and `bit` are 0
-/// where the area has none.
+/// `count` values of one type that lie one after another from `start` on. Of Modbus areas `start` counts coils, inputs or
+/// registers from 0; of S7 areas it counts bytes from 0, `bit` is a bit of that byte, and `block` the number of a data
+/// block. `block` and `bit` are 0 where the area has none.
 #[derive(Clone, Copy, Debug, PartialEq, Eq)]
 pub struct Item {
     pub area: Area,

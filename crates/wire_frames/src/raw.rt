@@ -1,5 +1,5 @@
-ghost use Rattle.std.specs.Prelude.{◌≡◌, ◌<◌, ◌+◌, ◌≤◌, IfOk, IsTrue, length, nat_le};
-ghost use Rattle.wire_frames.specs.RawFrames.{asked_payload, done_bytes, is_whole, number_at, payload_fit, payload_of, raw_admits, raw_frame, raw_reading, stated_length};
+ghost use Rattle.std.specs.Prelude.{◌≡◌, ◌<◌, ◌+◌, ◌≤◌, IfOk, IsTrue, length};
+ghost use Rattle.wire_frames.specs.RawFrames.{asked_payload, done_bytes, is_whole, number_at, payload_fit, payload_of, raw_frame, raw_reading, stated_length};
 
 use crate::asks::{Ask, ValueList};
 use crate::ends::{EndKind, FrameWhy, Outcome};
@@ -8,8 +8,18 @@ use crate::wires::{FrameFault, LengthRule, Reply, ReplyFault, Wire};
 use node_tree::{ByteList, Node, OwnedList, Reading, Span};
 use std::alloc::{AllocError, Global};
 
-/// The plain wire of scripts. A frame is its length in bytes, a reference and a payload, the first two
-/// as 16 bits, the higher byte first.
+/// How many bytes stand before the payload of a raw frame.
+const HEAD: usize = 4;
+
+/// The most bytes of a raw frame.
+const MAX_FRAME: usize = 4_096;
+
+/// The most bytes of a raw frame's payload.
+const MAX_PAYLOAD: usize = MAX_FRAME - HEAD;
+
+/// The plain wire of scripts, this project's own. A frame is its length in bytes, a reference and a payload, the first two
+/// as 16 bits, the higher byte first. The size of an ask is that of its request: a reply may be longer, up to the
+/// limit of 4,096 bytes.
 #[derive(Debug, Drop)]
 pub struct RawWire;
 
@@ -19,7 +29,7 @@ impl RawWire {
         ensures { result ≡ is_whole frame.now }
     {
         let size = frame.len();
-        read_length(frame) as usize == size && 4 <= size && size <= 4096
+        read_length(frame) as usize == size && (HEAD..=MAX_FRAME).contains(&size)
     }
 }
 
@@ -42,10 +52,10 @@ fn read_length(frame: &[u8]) -> u16
 }
 
 fn write_frame(alloc: Global, payload: &[u8], reference: u16) -> Result<ByteList, AllocError>
-    requires { length payload.now ≤ 4092 }
+    requires { length payload.now ≤ MAX_PAYLOAD }
     ensures { IfOk result (λ bytes. bytes ≡ raw_frame payload.now reference) }
 {
-    let size = payload.len() + 4;
+    let size = payload.len() + HEAD;
     let mut frame = Vec::with_capacity(alloc, size)?;
     frame.extend_from_slice(&(size as u16).to_be_bytes())?;
     frame.extend_from_slice(&reference.to_be_bytes())?;
@@ -59,7 +69,7 @@ fn read_frame(alloc: Global, frame: &[u8]) -> Result<Reading, AllocError>
     ensures { IfOk result (λ reading. reading ≡ raw_reading frame.now) }
 {
     let bits = frame.len() as u32 * 8;
-    let payload = OwnedList::from_slice(alloc, &frame[4..])?;
+    let payload = OwnedList::from_slice(alloc, &frame[HEAD..])?;
     let spans = OwnedList::from_slice(alloc, &[Span { from: 32, to: bits }])?;
     Ok(Reading {
         node: Node::Blob(payload),
@@ -118,7 +128,7 @@ fn node_payload(node: &Node) -> &[u8]
 
 impl Wire for RawWire {
     ghost use Rattle.wire_frames.specs.RawFrames.{payload_of, raw_meaning};
-    ghost use Rattle.wire_frames.specs.RawReplies.{raw_replies};
+    ghost use Rattle.wire_frames.specs.RawReplies.{raw_replies, raw_sized};
 
     ghost meaning = { λ _. raw_meaning };
 
@@ -128,17 +138,17 @@ impl Wire for RawWire {
 
     fn admits(&self, ask: &Ask) -> bool {
         match ask {
-            Ask::Raw(payload) => payload.len() <= 4092,
+            Ask::Raw(payload) => payload.len() <= MAX_PAYLOAD,
             _ => false,
         }
     }
 
     fn size(&self, ask: &Ask) -> u32 {
-        ask_payload(ask).len() as u32 + 4
+        (ask_payload(ask).len() + HEAD) as u32
     }
 
     fn limit(&self) -> u32 {
-        4096
+        MAX_FRAME as u32
     }
 
     fn frame(&self, alloc: Global, ask: &Ask, reference: u16) -> Result<ByteList, FrameFault> {
@@ -163,4 +173,6 @@ impl Wire for RawWire {
     }
 
     ghost replies = { λ wire ask reading admitted. raw_replies ask (payload_of reading.node) admitted };
+
+    ghost sized = { λ wire ask reference frame admitted is. raw_sized ask reference frame is };
 }

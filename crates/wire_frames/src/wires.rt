@@ -1,4 +1,4 @@
-ghost use Rattle.std.specs.Prelude.{◌≡◌, ◌<◌, IfOk, IsTrue, Ok};
+ghost use Rattle.std.specs.Prelude.{ℕ, ◌≡◌, ◌<◌, ◌≤◌, List, length, IfOk, IsTrue, Ok};
 
 use crate::asks::Ask;
 use crate::ends::{FrameWhy, Outcome};
@@ -122,4 +122,7 @@ pub trait Wire: Drop + Send {
     /// A reply ends a request in one of the four ways of a reply, with values only where it is done: none, or a row per
     /// item of the ask, or one row for a raw ask.
     ghost replies: { (wire : Self) (ask : Ask) (reading : Reading) → IsTrue ((meaning wire).admits ask) → IsReplyKind ask ((meaning wire).fit ask reading) };
+
+    /// A frame has no more bytes than the wire says of its ask.
+    ghost sized: { (wire : Self) (ask : Ask) (reference : ℕ) (frame : List ℕ) → IsTrue ((meaning wire).admits ask) → (meaning wire).frame_of ask reference ≡ Ok frame → length frame ≤ (meaning wire).size ask };
 }

@@ -1,7 +1,7 @@
 use Rattle.std.proofs.Common.{◌≡◌, ◌+◌, ◌≤◌, ◌++◌, take, drop, vec_len}
+use Rattle.std.specs.Prelude.{sum_by}
 use Rattle.std.specs.Vec.{vec_capacity}
 use Rattle.std.specs.VecDeque.{deque_len, deque_capacity}
-use Rattle.conn_core.specs.Finds.{weight_of}
 use Rattle.conn_core.specs.Rooms.{references_kept}
 use Rattle.conn_core.specs.Tables.{is_queued, is_sent, lost_row, references_of}
 use Rattle.conn_core.proofs.FrontLemmas.{changed_front}
@@ -15,8 +15,8 @@ invariant-loop-at l =
       rows : l.rows.items ≡ changed_front (lost_row l.reason) l.at old;
       freed : l.free.items ≡ l.fn.free.items ++ references_of is_queued (take l.at old);
       put_out : l.quarantined.items ≡ l.fn.quarantined.items ++ references_of is_sent (take l.at old);
-      free : deque_len l.free + weight_of references_kept (drop l.at old) ≤ deque_capacity l.free;
-      quarantined : vec_len l.quarantined + weight_of references_kept (drop l.at old) ≤ vec_capacity l.quarantined;
+      free : deque_len l.free + sum_by references_kept (drop l.at old) ≤ deque_capacity l.free;
+      quarantined : vec_len l.quarantined + sum_by references_kept (drop l.at old) ≤ vec_capacity l.quarantined;
       free_room : deque_capacity l.fn.free ≤ deque_capacity l.free;
       quarantine_room : vec_capacity l.fn.quarantined ≤ vec_capacity l.quarantined;
     }

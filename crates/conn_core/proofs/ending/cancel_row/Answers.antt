@@ -1,5 +1,6 @@
 use Rattle.std.proofs.Common.{◌≡◌, ◌≤◌, arith, sym, ap, subst}
-use Rattle.conn_core.specs.Finds.{IsFirstAt, weight_of}
+use Rattle.std.specs.Prelude.{sum_by}
+use Rattle.conn_core.specs.Finds.{IsFirstAt}
 use Rattle.conn_core.specs.Rooms.{lists_of, phase_references, references_kept}
 use Rattle.conn_core.specs.Tables.{ended_row, is_row_of}
 use Rattle.conn_core.proofs.EndLemmas.{cancels_queued, cancels_sent, weight_found}
@@ -11,7 +12,7 @@ add_back-requires c =
     let rows = c.args.table.now.rows.items in
     let p = is_row_of c.args.actor c.args.id in
     let first : IsFirstAt p rows c.in-Some.at = subst (λ xs. IsFirstAt p xs c.in-Some.at) c.deref.ensures.value c.in-Some.ensures in
-    let one : references_kept row ≤ weight_of references_kept rows = weight_found references_kept p rows row (first.found row (sym c.index_mut-row.ensures.value)) in
+    let one : references_kept row ≤ sum_by references_kept rows = weight_found references_kept p rows row (first.found row (sym c.index_mut-row.ensures.value)) in
     let live : references_kept row ≡ 1 = ap phase_references c.in-Queued.is in omega arith
 
 pub add-requires : goal.add-requires
@@ -20,7 +21,7 @@ add-requires c =
     let rows = c.args.table.now.rows.items in
     let p = is_row_of c.args.actor c.args.id in
     let first : IsFirstAt p rows c.in-Some.at = subst (λ xs. IsFirstAt p xs c.in-Some.at) c.deref.ensures.value c.in-Some.ensures in
-    let one : references_kept row ≤ weight_of references_kept rows = weight_found references_kept p rows row (first.found row (sym c.index_mut-row.ensures.value)) in
+    let one : references_kept row ≤ sum_by references_kept rows = weight_found references_kept p rows row (first.found row (sym c.index_mut-row.ensures.value)) in
     let live : references_kept row ≡ 1 = ap phase_references c.in-Sent.is in omega arith
 
 pub returns-in-Queued-clause-table : goal.returns-in-Queued-clause-table

@@ -1,6 +1,12 @@
+use Rattle.std.proofs.Common.{◌≡◌, rules, tests}
+use Rattle.std.specs.List.{position}
+use Rattle.std.proofs.lemmas.Iterator.{YieldsList-from_slice}
+use Rattle.std.proofs.lemmas.Iterator.Search.{position_from_yields_List}
 use Rattle.conn_core.specs.Tables.{is_row_of}
 use Rattle.conn_core.proofs.FirstLemmas.{places}
 use Rattle.conn_core.proofs.finding.place_of.Goals as goal
 
 pub returns : goal.returns
-returns c = places (is_row_of c.args.actor c.args.id) c.args.rows.now c.position_of.result c.position_of.ensures
+returns c =
+    let is : c.position.result ≡ position (is_row_of c.args.actor c.args.id) c.args.rows.now = position_from_yields_List (is_row_of c.args.actor c.args.id) _ _ c.position.result c.position.ensures.ran (YieldsList-from_slice c.args.rows.now cc) (λ x b q k. search (rules, tests)) in
+    places (is_row_of c.args.actor c.args.id) c.args.rows.now c.position.result is

@@ -1,6 +1,12 @@
+use Rattle.std.proofs.Common.{◌≡◌, rules, tests}
+use Rattle.std.specs.List.{position}
+use Rattle.std.proofs.lemmas.Iterator.{YieldsList-from_slice}
+use Rattle.std.proofs.lemmas.Iterator.Search.{position_from_yields_List}
 use Rattle.conn_core.specs.Tables.{is_reference}
 use Rattle.conn_core.proofs.FirstLemmas.{places}
 use Rattle.conn_core.proofs.finding.place_quarantined.Goals as goal
 
 pub returns : goal.returns
-returns c = places (is_reference c.args.reference) c.args.references.now c.position_quarantined.result c.position_quarantined.ensures
+returns c =
+    let is : c.position.result ≡ position (is_reference c.args.reference) c.args.references.now = position_from_yields_List (is_reference c.args.reference) _ _ c.position.result c.position.ensures.ran (YieldsList-from_slice c.args.references.now cc) (λ x b q k. search (rules, tests)) in
+    places (is_reference c.args.reference) c.args.references.now c.position.result is

@@ -7,7 +7,7 @@ use Rattle.conn_core.proofs.kept.record.Goals as goal
 pub add-requires-then-full : goal.add-requires-then-full
 add-requires-then-full c =
     let t = lists_of c.args.table.now in
-    let one : closes_of t ≡ 1 = closes_where_worn c.args.settings.now (c.len.result + 1) t (sym c.check_wears-full.ensures ∙ c.if-full.true) in omega arith
+    let one : closes_of t ≡ 1 = closes_where_worn c.args.settings.now (c.len.result + 1) t (sym c.wears-full.ensures ∙ c.if-full.true) in omega arith
 
 pub returns-then-full-clause-journal : goal.returns-then-full-clause-journal
 returns-then-full-clause-journal c =
@@ -16,7 +16,7 @@ returns-then-full-clause-journal c =
     let old = c.args.journal.now.items in
     let ok = c.args.journal.now.ok.0 in
     let len : c.len.result + 1 ≡ length old + 1 = omega arith in
-    let worn : wears s (length old + 1) t ≡ true = sym (ap (λ n. wears s n t) len) ∙ sym c.check_wears-full.ensures ∙ c.if-full.true in
+    let worn : wears s (length old + 1) t ≡ true = sym (ap (λ n. wears s n t) len) ∙ sym c.wears-full.ensures ∙ c.if-full.true in
     worn_written s (length old + 1) t c.args.entry c.make_worn.result old c.add.new.items.items c.add-then-full.new.items.items c.add-then-full.ensures.items c.add.ensures.items c.make_worn.ensures worn
 
 pub returns-then-full-clause-table : goal.returns-then-full-clause-table
@@ -26,7 +26,7 @@ returns-then-full-clause-table c =
     let old = c.args.journal.now.items in
     let ok = c.args.journal.now.ok.0 in
     let len : c.len.result + 1 ≡ length old + 1 = omega arith in
-    let worn : wears s (length old + 1) t ≡ true = sym (ap (λ n. wears s n t) len) ∙ sym c.check_wears-full.ensures ∙ c.if-full.true in
+    let worn : wears s (length old + 1) t ≡ true = sym (ap (λ n. wears s n t) len) ∙ sym c.wears-full.ensures ∙ c.if-full.true in
     c.close.ensures.table ∙ sym (ap (λ b. settled_if b t) worn)
 
 pub returns-else-full-clause-journal : goal.returns-else-full-clause-journal
@@ -36,7 +36,7 @@ returns-else-full-clause-journal c =
     let old = c.args.journal.now.items in
     let ok = c.args.journal.now.ok.0 in
     let len : c.len.result + 1 ≡ length old + 1 = omega arith in
-    let worn : wears s (length old + 1) t ≡ false = sym (ap (λ n. wears s n t) len) ∙ sym c.check_wears-full.ensures ∙ c.if-full.false in
+    let worn : wears s (length old + 1) t ≡ false = sym (ap (λ n. wears s n t) len) ∙ sym c.wears-full.ensures ∙ c.if-full.false in
     c.add.ensures.items ∙ sym (ap (λ b. old ++ turn_if b c.args.entry) worn)
 
 pub returns-else-full-clause-table : goal.returns-else-full-clause-table
@@ -46,5 +46,5 @@ returns-else-full-clause-table c =
     let old = c.args.journal.now.items in
     let ok = c.args.journal.now.ok.0 in
     let len : c.len.result + 1 ≡ length old + 1 = omega arith in
-    let worn : wears s (length old + 1) t ≡ false = sym (ap (λ n. wears s n t) len) ∙ sym c.check_wears-full.ensures ∙ c.if-full.false in
+    let worn : wears s (length old + 1) t ≡ false = sym (ap (λ n. wears s n t) len) ∙ sym c.wears-full.ensures ∙ c.if-full.false in
     sym (ap (λ b. settled_if b t) worn)

@@ -10,7 +10,7 @@ loop-turn-preserved g c =
     (λ whole. take c.in-Ok.count c.read_at.new.to ≡ take c.in-Ok.count (drop (length c.loop-turn.bytes.items) whole)) =
     rw (c.loop-turn.invariant.file c.args.name.now, c.len.ensures, c.loop-turn.bytes.ok.0) at c.in-Ok.ensures.content in
     record {
-      file = λ other. c.in-Ok.ensures.files other ∙ c.loop-turn.invariant.file other;
+      file = λ other. (c.in-Ok.ensures.files other).0 ∙ c.loop-turn.invariant.file other;
       first = rw put (AreFirst-append _ _ _ _ c.in-Ok.ensures.count c.loop-turn.invariant.first next);
       faults = λ other. c.in-Ok.ensures.no_fault other ∙ c.loop-turn.invariant.faults other;
     }

@@ -1,4 +1,4 @@
-use Rattle.std.proofs.Common.{◌≡◌, ◌+◌, ◌*◌, List, [], ◌∷◌, ◌++◌, drop, Ok, Err, None, sym, ap, ◌∙◌, subst, arith}
+use Rattle.std.proofs.Common.{◌≡◌, ◌+◌, ◌*◌, List, [], ◌∷◌, ◌++◌, drop, Ok, Err, sym, ap, ◌∙◌, subst, arith}
 use Rattle.std.proofs.lemmas.Result.{err_from_is_err_and}
 use Rattle.std.proofs.lemmas.List.{map-append}
 use Rattle.std.proofs.Math.ListN.{set}
@@ -22,12 +22,13 @@ returns-in_err-number-clause-fault c =
     let field = c.field-item.result in
     let inv = c.loop-field.invariant in
     let next = next_field fields i field c.loop-field-test.true c.field-item.is in
+    let above = c.args.above in
     let plain = subst (λ (fs : List Field). ArePlain fs) next inv.5 in
     let width = c.width_of-width.result in
     let at = 8 * c.loop-field.from in
     let bits = bits_of c.args.bytes.now in
     rw (p.1, p.2)
-    (of_fault _ _ _ (λ fault short. fails_at fields i field at bits inv.0 fault next (plain_reads field width at bits (Err fault) plain.0.0 c.width_of-width.ensures short) inv.6) c.in_err-number.ensures.number)
+    (of_fault _ _ _ (λ fault short. fails_at above fields i field at bits inv.0 fault next (plain_reads above field c.order_of-order.result width at bits (Err fault) c.width_of-width.ensures c.order_of-order.ensures short) inv.6) c.in_err-number.ensures.number)
 
 pub loop-field-preserved : goal.loop-field-preserved
 loop-field-preserved c =
@@ -36,10 +37,11 @@ loop-field-preserved c =
     let field = c.field-item.result in
     let inv = c.loop-field.invariant in
     let next = next_field fields i field c.loop-field-test.true c.field-item.is in
+    let above = c.args.above in
     let plain = subst (λ (fs : List Field). ArePlain fs) next inv.5 in
     let part = number_part c.in_ok-number.number c.width_of-width.result (8 * c.loop-field.from) in
     let bits = bits_of c.args.bytes.now in
-    let read : FieldReads None field (8 * c.loop-field.from) bits (Ok part) = plain_reads field c.width_of-width.result (8 * c.loop-field.from) bits (Ok part) plain.0.0 c.width_of-width.ensures c.in_ok-number.ensures.number in
+    let read : FieldReads above field (8 * c.loop-field.from) bits (Ok part) = plain_reads above field c.order_of-order.result c.width_of-width.result (8 * c.loop-field.from) bits (Ok part) c.width_of-width.ensures c.order_of-order.ensures c.in_ok-number.ensures.number in
     let width = c.width_of-width.result in
     let whole = whole_bytes width (is_width _ width c.width_of-width.ensures) in
     let end : 8 * c.loop-field.from + width ≡ 8 * (c.loop-field.from + c.from.result) = omega (arith, whole, c.from.ensures) in (
@@ -52,7 +54,7 @@ loop-field-preserved c =
       end_of-more 0 inv.0 part ∙ end,
       omega (arith, whole, c.from.ensures, c.in_ok-number.ensures.within),
       plain.1,
-      λ outcome rest. goes_on fields i field (8 * c.loop-field.from) bits inv.0 part next read inv.6 outcome (subst (λ at. FieldsRead None (drop (i + 1) fields) at bits outcome) (sym end) rest),
+      λ outcome rest. goes_on above fields i field (8 * c.loop-field.from) bits inv.0 part next read inv.6 outcome (subst (λ at. FieldsRead above (drop (i + 1) fields) at bits outcome) (sym end) rest),
     )
 
 pub returns-clause-found : goal.returns-clause-found
@@ -60,7 +62,7 @@ returns-clause-found c =
     let inv = c.loop-field.invariant in
     let bits = 8 * c.loop-field.from in (
       inv.0,
-      all_read c.args.fields.now c.loop-field.field-index bits (bits_of c.args.bytes.now) inv.0 (omega arith) inv.6,
+      all_read c.args.above c.args.fields.now c.loop-field.field-index bits (bits_of c.args.bytes.now) inv.0 (omega arith) inv.6,
       grouped inv.0 c.from_vec.result bits c.from_vec-2.result (c.from_vec.ensures ∙ inv.1) inv.3
           (c.from_vec-2.ensures ∙ ap (λ (spans : List Span). set spans 0 (record { from = 0; to = bits })) inv.2),
     )

@@ -1,4 +1,4 @@
-use Rattle.std.proofs.Common.{◌≡◌, ◌*◌, ◌≤◌, List, ◌∷◌, drop, map, Result, None}
+use Rattle.std.proofs.Common.{◌≡◌, ◌*◌, ◌≤◌, List, ◌∷◌, drop, map, Result}
 use Rattle.std.specs.List.{flat_map}
 use Rattle.node_tree.specs.Bits.{bits_of}
 use Rattle.mspec_meaning.specs.Plain.{ArePlain}
@@ -15,4 +15,4 @@ invariant-loop-field l =
     × (end_of 0 parts ≡ 8 * l.from)
     × (8 * l.from ≤ 524280)
     × ArePlain (drop l.field-index l.fields)
-    × ((outcome : Result (List Part) Fault) → FieldsRead None (drop l.field-index l.fields) (8 * l.from) (bits_of l.bytes) outcome → FieldsRead None l.fields 0 (bits_of l.bytes) (behind parts outcome))
+    × ((outcome : Result (List Part) Fault) → FieldsRead l.above (drop l.field-index l.fields) (8 * l.from) (bits_of l.bytes) outcome → FieldsRead l.above l.fields 0 (bits_of l.bytes) (behind parts outcome))

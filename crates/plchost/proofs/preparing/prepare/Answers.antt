@@ -1,7 +1,7 @@
 use Rattle.std.proofs.Common.{◌≡◌, ℕ, List, take, Some, Err, inl, inr, refl, ap, sym, subst}
 use Rattle.std.specs.Option.{IfSome}
 use Rattle.std.proofs.lemmas.Result.{err_from_is_err_and}
-use Rattle.plchost.proofs.FileLemmas.{text_seen, failed_seen, unformed_seen, seen_by}
+use Rattle.plchost.proofs.FileLemmas.{text_seen, failed_seen, unformed_seen, seen_by, file_refusal, no_text_lacking}
 use Rattle.plchost.proofs.preparing.prepare.Goals as goal
 
 pub returns-in_err-text-clause-refused : goal.returns-in_err-text-clause-refused
@@ -50,3 +50,23 @@ returns-clause-refused g c =
     let form = c.in_ok-description.ensures.accepted in
     let seen = seen_by c.args.words.now name kind g.F.Shelf.counts_with before after (Some text) c.in-Some.ensures (same, text_seen (before.file name) text c.in_ok-description.description front form) (λ other _. same other) in
     (Some text, seen, (name, kind, text, c.in_ok-description.description, c.in-Some.ensures, refl, form, c.in-None.ensures))
+
+pub returns-in_default-clause-lacking : goal.returns-in_default-clause-lacking
+returns-in_default-clause-lacking g c = λ lacks. absurd (c.in_default.ensures lacks.0 lacks.1 lacks.2)
+
+pub returns-in_err-text-clause-lacking : goal.returns-in_err-text-clause-lacking
+returns-in_err-text-clause-lacking g c =
+    let p = err_from_is_err_and c.from_residual.result c.from_residual.ensures.1 in
+    λ _. rw (p.1, p.2) (file_refusal c.in_err-text.field-0.0)
+
+pub returns-in_err-description-clause-lacking : goal.returns-in_err-description-clause-lacking
+returns-in_err-description-clause-lacking g c =
+    λ lacks. absurd (no_text_lacking c.args.words.now (g.F.Shelf.seen c.args.files.now) c.in-Some.found.file.now c.in-Some.found.kind.now c.in_ok-text.text c.in-Some.ensures c.in_ok-text.ensures.lacking lacks)
+
+pub returns-in-Some-def_named-clause-lacking : goal.returns-in-Some-def_named-clause-lacking
+returns-in-Some-def_named-clause-lacking g c =
+    λ lacks. absurd (no_text_lacking c.args.words.now (g.F.Shelf.seen c.args.files.now) c.in-Some.found.file.now c.in-Some.found.kind.now c.in_ok-text.text c.in-Some.ensures c.in_ok-text.ensures.lacking lacks)
+
+pub returns-clause-lacking : goal.returns-clause-lacking
+returns-clause-lacking g c =
+    λ lacks. absurd (no_text_lacking c.args.words.now (g.F.Shelf.seen c.args.files.now) c.in-Some.found.file.now c.in-Some.found.kind.now c.in_ok-text.text c.in-Some.ensures c.in_ok-text.ensures.lacking lacks)

@@ -1,4 +1,4 @@
-use Rattle.std.proofs.Common.{◌≡◌, ℕ, [], ◌++◌, Ok, inl, inr, refl, ap, sym, ◌∙◌, subst}
+use Rattle.std.proofs.Common.{◌≡◌, ℕ, [], ◌++◌, inl, inr, refl, ap, sym, ◌∙◌, subst}
 use Rattle.std.proofs.lemmas.Result.{err_from_is_err_and}
 use Rattle.script_replay.specs.Replays.{Position, Script, after_command, entries, reply_text}
 use Rattle.script_replay.specs.declared.replays.ScriptEnd.{ScriptEnd}
@@ -53,15 +53,15 @@ returns-in_err-put_answer-clause-cut g c =
       PutsFront-after (g.K.Sink.seen c.args.out.now).held (g.K.Sink.seen c.loop-line.out).held (g.K.Sink.seen c.put_answer.new.out).held c.args.gathered.now.items c.loop-line.gathered.items inv.0 (reply_text at cut.0) inv.1 cut.2,
     )
 
-pub returns-then-not-branch-clause-answers : goal.returns-then-not-branch-clause-answers
-returns-then-not-branch-clause-answers g c =
+pub returns-in-Refused-clause-answers : goal.returns-in-Refused-clause-answers
+returns-in-Refused-clause-answers g c =
     let inv = c.loop-line.invariant in
     let all = lines_in c.args.ended c.args.bytes.now in
     let n = c.loop-line.replay.next in
     let at = c.loop-line.replay.conn in
-    let refused = c.put_answer.ensures.refused (c.in_ok-put_answer.was ∙ ap (λ taken. Ok taken) c.if-not-branch.true) in
+    let refused = c.in_ok-put_answer.ensures.refused (cc) in
     let script = ends_refused all n at c.in-Some.line.now (lines_in c.args.ended c.loop-line.rest.now) (lines_in c.args.ended c.in-Some.more.now) inv.0 c.in-Some.ensures.line refused.0 inv.3 in
-    let here : c.next-line.result ≡ n = c.next-line.ensures ∙ ap (λ (p : Position). p.next) refused.3 in (
+    let here : c.next_number-line.result ≡ n = c.next_number-line.ensures ∙ ap (λ (p : Position). p.next) refused.3 in (
       inv.0,
       subst (λ (line : ℕ). Script all inv.0 (Refused line)) (sym here) script,
       Adds-same (g.K.Sink.seen c.args.out.now).held (g.K.Sink.seen c.loop-line.out).held (g.K.Sink.seen c.put_answer.new.out).held c.args.gathered.now.items c.loop-line.gathered.items c.put_answer.new.gathered.items inv.0 inv.1 refused.1 refused.2,
@@ -74,7 +74,7 @@ loop-line-preserved g c =
     let n = c.loop-line.replay.next in
     let at = c.loop-line.replay.conn in
     let left = lines_in c.args.ended c.in-Some.more.now in
-    let answered = c.put_answer.ensures.answered (c.in_ok-put_answer.was ∙ ap (λ taken. Ok taken) c.if-not-branch.false) in
+    let answered = c.in_ok-put_answer.ensures.answered (cc) in
     let goes = one_more_answer all n at c.in-Some.line.now (lines_in c.args.ended c.loop-line.rest.now) left inv.0 answered.0 c.in-Some.ensures.line answered.1 inv.3 in
     let text = inv.0 ++ reply_text at answered.0 in (
       text,
@@ -91,6 +91,6 @@ returns-clause-answers g c =
     let at = c.loop-line.replay.conn in
     let script = ends_answered all n at (lines_in c.args.ended c.loop-line.rest.now) inv.0 c.in_default.ensures.line inv.3 in (
       inv.0,
-      subst (λ (end : ScriptEnd). Script all inv.0 end) (ap (λ next. Answered next (entries at)) (sym c.next.ensures) ∙ ap (λ (k : ℕ). Answered c.next.result k) (sym c.entries.ensures.entries)) script,
+      subst (λ (end : ScriptEnd). Script all inv.0 end) (ap (λ next. Answered next (entries at)) (sym c.next_number.ensures) ∙ ap (λ (k : ℕ). Answered c.next_number.result k) (sym c.entries.ensures.entries)) script,
       inv.1,
     )

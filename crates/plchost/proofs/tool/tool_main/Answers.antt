@@ -1,26 +1,49 @@
 use Rattle.std.proofs.Common.{◌≡◌, ◌≢◌, ℕ, ◌⊎◌, true, inl, inr, ap, sym, ◌∙◌, arith}
+use Rattle.std.proofs.lemmas.Bool.{cases_eq}
+use Rattle.std.proofs.lemmas.Result.{IfOk-at_ok}
 use Rattle.plchost.specs.Tool.{Said}
-use Rattle.plchost.proofs.StatusLemmas.{words_at_2, only_words, fault_at_3, rose_at_none, none_at_rise, only_fault, rose_at_4, ended_at, is_or_not, is_end, over_at_13, refused_at_12, seen_of, unformed_at_1}
+use Rattle.plchost.proofs.StatusLemmas.{words_at_2, only_words, fault_at_3, rose_at_none, none_at_rise, only_fault, rose_at_4, ended_at, is_end, over_at_13, refused_at_12, seen_of, unformed_at_1, cut_status}
 use Rattle.plchost.proofs.NoRefusal.{no_status_6}
+use Rattle.plchost.proofs.Complete.{complete, script_well, values_well}
+use Rattle.plchost.proofs.EndLemmas.{concluded, early_of, lacking_of}
 use Rattle.plchost.proofs.EndStatus.{cut_at_7, well_at_0}
 use Rattle.plchost.proofs.ScriptStatus.{line_at_10}
 use Rattle.plchost.proofs.tool.tool_main.Goals as goal
 
+pub conclude-requires : goal.conclude-requires
+conclude-requires g c =
+    λ (e : _).
+    let s = IfOk-at_ok _ e c.run-ran.ensures.run.said in
+    (cut_status c.args.words.now s.0 s.1 s.3).0 (sym s.5)
+
+pub returns-clause-run : goal.returns-clause-run
+returns-clause-run g c =
+    concluded c.args.words.now g.F.Shelf.counts_with _ _ _ _ _ _ _ _ _ c.deref.result.now c.run-ran.result c.conclude.result c.new-gathered.ensures.items c.deref.ensures.value c.run-ran.ensures.run c.conclude.ensures.done c.conclude.ensures.cut
+    (λ e. let f = c.conclude.ensures.failed e in (f.0, ap g.K.Sink.seen f.1))
+
+pub returns-clause-untouched : goal.returns-clause-untouched
+returns-clause-untouched g c =
+    λ (early : _). early_of c.run-ran.result c.conclude.result _ (λ well. (c.conclude.ensures.done well).0) early c.run-ran.ensures.untouched
+
+pub returns-clause-no_such_file : goal.returns-clause-no_such_file
+returns-clause-no_such_file g c =
+    λ (lacks : _). lacking_of c.run-ran.result c.conclude.result (λ well. (c.conclude.ensures.done well).0) (c.run-ran.ensures.lacking lacks)
+
 pub returns-clause-words_refused : goal.returns-clause-words_refused
 returns-clause-words_refused g c =
     λ (two : _).
-    let s = c.conclude.ensures.run.said (λ e. absurd (omega (arith, e, two))) (λ e. absurd (omega (arith, e, two))) in
+    let s = (returns-clause-run g c).said (λ e. absurd (omega (arith, e, two))) (λ e. absurd (omega (arith, e, two))) in
     words_at_2 c.args.words.now s.0 s.3.0 s.3.1 (ap (λ (o : Said). o.status) (sym s.3.3) ∙ sym s.5 ∙ two)
 
 pub returns-clause-only_commands : goal.returns-clause-only_commands
 returns-clause-only_commands g c =
     λ (none : _).
-    elim (is_or_not c.conclude.result 5) [
+    elim (cases_eq c.conclude.result 5) [
       | inl five ↦ inr (inl five)
-      | inr well ↦ elim (is_or_not c.conclude.result 8) [
+      | inr well ↦ elim (cases_eq c.conclude.result 8) [
         | inl eight ↦ inr (inr eight)
         | inr enough ↦
-            let s = c.conclude.ensures.run.said well enough in
+            let s = (returns-clause-run g c).said well enough in
             inl (s.5 ∙ ap (λ (o : Said). o.status) s.3.3 ∙ only_words c.args.words.now s.0 s.3.0 s.3.1 none)
       ]
     ]
@@ -28,51 +51,51 @@ returns-clause-only_commands g c =
 pub returns-clause-not_built : goal.returns-clause-not_built
 returns-clause-not_built g c =
     λ (one : _).
-    let s = c.conclude.ensures.run.said (λ e. absurd (omega (arith, e, one))) (λ e. absurd (omega (arith, e, one))) in
+    let s = (returns-clause-run g c).said (λ e. absurd (omega (arith, e, one))) (λ e. absurd (omega (arith, e, one))) in
     let f = unformed_at_1 c.args.words.now s.0 s.3.0 s.3.1 (ap (λ (o : Said). o.status) (sym s.3.3) ∙ sym s.5 ∙ one) in
-    (f.0, f.1, f.2, f.3, seen_of f.0 (g.F.Shelf.seen c.args.files.now) (g.F.Shelf.seen c.conclude.new.files) s.0.file f.2 f.4 (s.2.from_files.named f.0 f.1 f.3), f.5)
+    (f.0, f.1, f.2, f.3, seen_of f.0 (g.F.Shelf.seen c.args.files.now) (g.F.Shelf.seen c.run-ran.new.files) s.0.file f.2 f.4 (s.2.from_files.named f.0 f.1 f.3), f.5)
 
 pub returns-clause-file_fault : goal.returns-clause-file_fault
 returns-clause-file_fault g c =
     λ (three : _).
-    let s = c.conclude.ensures.run.said (λ e. absurd (omega (arith, e, three))) (λ e. absurd (omega (arith, e, three))) in
+    let s = (returns-clause-run g c).said (λ e. absurd (omega (arith, e, three))) (λ e. absurd (omega (arith, e, three))) in
     let f = fault_at_3 c.args.words.now s.0 s.3.0 s.3.1 (ap (λ (o : Said). o.status) (sym s.3.3) ∙ sym s.5 ∙ three) in
-    (f.0, f.1, f.2, rose_at_none f.0 (g.F.Shelf.seen c.args.files.now) (g.F.Shelf.seen c.conclude.new.files) s.0.file f.3 (s.2.from_files.named f.0 f.1 f.2))
+    (f.0, f.1, f.2, rose_at_none f.0 (g.F.Shelf.seen c.args.files.now) (g.F.Shelf.seen c.run-ran.new.files) s.0.file f.3 (s.2.from_files.named f.0 f.1 f.2))
 
 pub returns-clause-file_failed : goal.returns-clause-file_failed
 returns-clause-file_failed g c =
     λ name kind decode rise.
-    elim (is_or_not c.conclude.result 5) [
+    elim (cases_eq c.conclude.result 5) [
       | inl five ↦ inr (inl five)
-      | inr well ↦ elim (is_or_not c.conclude.result 8) [
+      | inr well ↦ elim (cases_eq c.conclude.result 8) [
         | inl eight ↦ inr (inr eight)
         | inr enough ↦
-            let s = c.conclude.ensures.run.said well enough in
-            let none = none_at_rise name (g.F.Shelf.seen c.args.files.now) (g.F.Shelf.seen c.conclude.new.files) s.0.file (s.2.from_files.named name kind decode) rise in
+            let s = (returns-clause-run g c).said well enough in
+            let none = none_at_rise name (g.F.Shelf.seen c.args.files.now) (g.F.Shelf.seen c.run-ran.new.files) s.0.file (s.2.from_files.named name kind decode) rise in
             inl (s.5 ∙ ap (λ (o : Said). o.status) s.3.3 ∙ only_fault c.args.words.now s.0 name kind s.3.0 s.3.1 decode none)
       ]
     ]
 
 pub returns-clause-other_files : goal.returns-clause-other_files
 returns-clause-other_files g c =
-    elim (is_or_not c.conclude.result 5) [
-      | inl five ↦ (c.conclude.ensures.run.write_fault five).2.from_files.others
-      | inr well ↦ elim (is_or_not c.conclude.result 8) [
-        | inl eight ↦ (c.conclude.ensures.run.no_memory eight).2.from_files.others
-        | inr enough ↦ (c.conclude.ensures.run.said well enough).2.from_files.others
+    elim (cases_eq c.conclude.result 5) [
+      | inl five ↦ ((returns-clause-run g c).write_fault five).2.from_files.others
+      | inr well ↦ elim (cases_eq c.conclude.result 8) [
+        | inl eight ↦ ((returns-clause-run g c).no_memory eight).2.from_files.others
+        | inr enough ↦ ((returns-clause-run g c).said well enough).2.from_files.others
       ]
     ]
 
 pub returns-clause-read_fault : goal.returns-clause-read_fault
 returns-clause-read_fault g c =
     λ (four : _).
-    let s = c.conclude.ensures.run.said (λ e. absurd (omega (arith, e, four))) (λ e. absurd (omega (arith, e, four))) in
+    let s = (returns-clause-run g c).said (λ e. absurd (omega (arith, e, four))) (λ e. absurd (omega (arith, e, four))) in
     rose_at_4 s.0.how s.3.0 _ _ s.0.bytes (ap (λ (o : Said). o.status) (sym s.3.3) ∙ sym s.5 ∙ four) s.2.from_input.left
 
 pub returns-clause-too_long : goal.returns-clause-too_long
 returns-clause-too_long g c =
     λ (thirteen : _).
-    let s = c.conclude.ensures.run.said (λ e. absurd (omega (arith, e, thirteen))) (λ e. absurd (omega (arith, e, thirteen))) in
+    let s = (returns-clause-run g c).said (λ e. absurd (omega (arith, e, thirteen))) (λ e. absurd (omega (arith, e, thirteen))) in
     (s.0.bytes, over_at_13 s.0.how s.3.0 _ _ s.0.bytes (ap (λ (o : Said). o.status) (sym s.3.3) ∙ sym s.5 ∙ thirteen) s.2.from_input)
 
 -- a run that ended has neither of the two other statuses
@@ -84,36 +107,48 @@ pub returns-clause-read_to_end : goal.returns-clause-read_to_end
 returns-clause-read_to_end g c =
     λ (end : _).
     let known = ended c.conclude.result end in
-    let s = c.conclude.ensures.run.said known.0 known.1 in
+    let s = (returns-clause-run g c).said known.0 known.1 in
     ended_at s.0.how s.3.0 _ _ s.0.bytes (ap (λ (o : Said). is_end o.status) (sym s.3.3) ∙ ap is_end (sym s.5) ∙ known.2) s.3.2 s.2.from_input.left
 
 pub returns-clause-type_refused : goal.returns-clause-type_refused
 returns-clause-type_refused g c =
     λ (twelve : _).
-    let s = c.conclude.ensures.run.said (λ e. absurd (omega (arith, e, twelve))) (λ e. absurd (omega (arith, e, twelve))) in
+    let s = (returns-clause-run g c).said (λ e. absurd (omega (arith, e, twelve))) (λ e. absurd (omega (arith, e, twelve))) in
     let f = refused_at_12 c.args.words.now s.0 s.3.0 s.3.1 (ap (λ (o : Said). o.status) (sym s.3.3) ∙ sym s.5 ∙ twelve) in
-    (f.0, f.1, f.2, f.3, f.4, seen_of f.0 (g.F.Shelf.seen c.args.files.now) (g.F.Shelf.seen c.conclude.new.files) s.0.file f.2 f.5 (s.2.from_files.named f.0 f.1 f.4), f.6, f.7)
+    (f.0, f.1, f.2, f.3, f.4, seen_of f.0 (g.F.Shelf.seen c.args.files.now) (g.F.Shelf.seen c.run-ran.new.files) s.0.file f.2 f.5 (s.2.from_files.named f.0 f.1 f.4), f.6, f.7)
 
 pub returns-clause-none_refused : goal.returns-clause-none_refused
 returns-clause-none_refused g c =
     λ (six : _).
-    let s = c.conclude.ensures.run.said (λ e. absurd (omega (arith, e, six))) (λ e. absurd (omega (arith, e, six))) in
+    let s = (returns-clause-run g c).said (λ e. absurd (omega (arith, e, six))) (λ e. absurd (omega (arith, e, six))) in
     no_status_6 c.args.words.now s.0 s.3.0 s.3.1 (ap (λ (o : Said). o.status) (sym s.3.3) ∙ sym s.5 ∙ six)
 
 pub returns-clause-line_refused : goal.returns-clause-line_refused
 returns-clause-line_refused g c =
     λ (ten : _).
-    let s = c.conclude.ensures.run.said (λ e. absurd (omega (arith, e, ten))) (λ e. absurd (omega (arith, e, ten))) in
+    let s = (returns-clause-run g c).said (λ e. absurd (omega (arith, e, ten))) (λ e. absurd (omega (arith, e, ten))) in
     line_at_10 c.args.words.now s.0 s.1 _ _ _ _ s.3 (sym s.5 ∙ ten) s.2.from_input s.4
 
 pub returns-clause-all_well : goal.returns-clause-all_well
 returns-clause-all_well g c =
     λ (zero : _).
-    let s = c.conclude.ensures.run.said (λ e. absurd (omega (arith, e, zero))) (λ e. absurd (omega (arith, e, zero))) in
+    let s = (returns-clause-run g c).said (λ e. absurd (omega (arith, e, zero))) (λ e. absurd (omega (arith, e, zero))) in
     well_at_0 c.args.words.now _ _ _ s.0 s.1 s.2 s.3 (sym s.5 ∙ zero) s.4
 
 pub returns-clause-truncated : goal.returns-clause-truncated
 returns-clause-truncated g c =
     λ (seven : _).
-    let s = c.conclude.ensures.run.said (λ e. absurd (omega (arith, e, seven))) (λ e. absurd (omega (arith, e, seven))) in
+    let s = (returns-clause-run g c).said (λ e. absurd (omega (arith, e, seven))) (λ e. absurd (omega (arith, e, seven))) in
     cut_at_7 c.args.words.now _ _ _ s.0 s.1 s.2 s.3 (sym s.5 ∙ seven) s.4
+
+pub returns-clause-complete : goal.returns-clause-complete
+returns-clause-complete g c =
+    λ t outcome told tool well. complete c.args.words.now g.F.Shelf.counts_with _ _ c.conclude.result (returns-clause-run g c) t outcome told tool well
+
+pub returns-clause-values_end_well : goal.returns-clause-values_end_well
+returns-clause-values_end_well g c =
+    λ tells well. values_well c.args.words.now g.F.Shelf.counts_with _ _ c.conclude.result (returns-clause-run g c) tells well
+
+pub returns-clause-script_ends_well : goal.returns-clause-script_ends_well
+returns-clause-script_ends_well g c =
+    λ tells well. script_well c.args.words.now g.F.Shelf.counts_with _ _ c.conclude.result (returns-clause-run g c) tells well

@@ -1,44 +1,55 @@
-use Rattle.std.proofs.Common.{◌≡◌, refl, arith, subst, Err}
-use Rattle.wire_frames.specs.declared.ends.Reason.{Reason}
+use Rattle.std.proofs.Common.{refl, ap, subst, Ok}
 use Rattle.conn_core.specs.Rooms.{lists_of}
-use Rattle.conn_core.specs.States.{Grows, State, connection_of}
-use Rattle.conn_core.specs.Steps.{answer_of, apply_frame, frame_answer}
-use Rattle.conn_core.specs.TableLaw.{ClosesWith}
+use Rattle.conn_core.specs.States.{Key, connection_of}
+use Rattle.conn_core.specs.Steps.{IsGivenOrNoMemory, answer_of, apply_frame, frame_answer, received}
 use Rattle.conn_core.specs.declared.answers.FrameRefusal.TheVariants as refusals
 use Rattle.conn_core.specs.declared.entries.Event.TheVariants as events
-use Rattle.conn_core.proofs.AskLemmas.{frame_carries}
-use Rattle.conn_core.proofs.ClosedCauses.{closed_cause, frame_taken_closed, given_closed}
-use Rattle.conn_core.proofs.StateLemmas.{handed_grows, handed_state}
+use Rattle.conn_core.proofs.CauseLemmas.{closed_cause, frame_cause}
+use Rattle.conn_core.proofs.RefusalLemmas.{given_refused, shut}
+use Rattle.conn_core.proofs.StateLemmas.{goes_on, leads}
 use Rattle.conn_core.proofs.conn.ConnState.apply_frame.Goals as goal
 
 pub invariant_of-self : goal.invariant_of-self
 invariant_of-self g c =
     let k = c.self.inside.kept in
     let s = c.self.inside.settings in
-    let connection = connection_of g.W.Wire.meaning (record { wire = c.self.inside.wire; settings = s }) in
+    let key : Key _ = record { wire = c.self.inside.wire; settings = s } in
     let t = lists_of k.table in
-    let state = c.self.invariant in
+    let wire = g.W.Wire.meaning c.self.inside.wire in
+    let m = c.apply_frame.new.kept in
     let called = c.apply_frame.ensures in
-    handed_state connection k c.apply_frame.new.kept c.args.actor (events.Frame c.args.frame) (apply_frame connection.wire t c.args.frame) frame_answer c.apply_frame.result state refl refl (frame_carries connection.wire.admits connection.wire t c.args.frame (omega (arith, state.asks))) called.turned called.stays called.kept
+    let turned = called.turned in
+    let law = g.met.W.Wire g.world.𝓛 g.world.𝓜 g.world.𝓡 ((λ s x. x), (λ x. x), (λ x. x), λ x. x) in
+    leads (connection_of g.W.Wire.meaning key) k m c.args.actor (events.Frame c.args.frame) (apply_frame wire t c.args.frame) frame_answer c.apply_frame.result (law.replies c.self.inside.wire) c.self.invariant refl tt refl turned called.stays called.kept
 
-pub returns-clause-grows : goal.returns-clause-grows
-returns-clause-grows g c =
+pub returns-clause-goes_on : goal.returns-clause-goes_on
+returns-clause-goes_on g c =
     let k = c.self.inside.kept in
     let s = c.self.inside.settings in
-    let connection = connection_of g.W.Wire.meaning (record { wire = c.self.inside.wire; settings = s }) in
+    let key : Key _ = record { wire = c.self.inside.wire; settings = s } in
     let t = lists_of k.table in
-    let state = c.self.invariant in
+    let wire = g.W.Wire.meaning c.self.inside.wire in
+    let m = c.apply_frame.new.kept in
     let called = c.apply_frame.ensures in
-    subst (λ (v : State _). Grows c.args.actor v.journal c.apply_frame.new.kept.journal.items) c.self.view_is (handed_grows s k c.apply_frame.new.kept c.args.actor (events.Frame c.args.frame) (apply_frame connection.wire t c.args.frame) frame_answer c.apply_frame.result called.turned called.stays)
-
-pub returns-clause-legal : goal.returns-clause-legal
-returns-clause-legal g c = (invariant_of-self g c).legal
+    let turned = called.turned in
+    goes_on g.W.Wire.meaning key k m c.args.actor (events.Frame c.args.frame) (apply_frame wire t c.args.frame) frame_answer c.apply_frame.result c.self.view_is (invariant_of-self g c) turned called.stays
 
 pub returns-clause-closed : goal.returns-clause-closed
 returns-clause-closed g c =
     let k = c.self.inside.kept in
     let s = c.self.inside.settings in
-    let connection = connection_of g.W.Wire.meaning (record { wire = c.self.inside.wire; settings = s }) in
+    let key : Key _ = record { wire = c.self.inside.wire; settings = s } in
     let t = lists_of k.table in
-    subst (λ (v : State _). (reason : Reason) → c.apply_frame.result ≡ Err (refusals.Closed reason) → ClosesWith v.journal reason) c.self.view_is
-    (λ reason is. closed_cause connection k reason c.self.invariant (frame_taken_closed connection.wire t c.args.frame reason (given_closed refusals.NoMemory (refusals.Closed reason) c.apply_frame.result (answer_of (apply_frame connection.wire t c.args.frame)) (λ same. cc) c.apply_frame.ensures.answer is)))
+    let wire = g.W.Wire.meaning c.self.inside.wire in
+    λ reason is. (closed_cause g.W.Wire.meaning key k c.self.invariant c.self.view_is reason).0 (frame_cause wire t c.args.frame reason (given_refused refusals.NoMemory (refusals.Closed reason) c.apply_frame.result (answer_of (apply_frame wire t c.args.frame)) (λ same. cc) c.apply_frame.ensures.answer is))
+
+pub returns-clause-once_closed : goal.returns-clause-once_closed
+returns-clause-once_closed g c =
+    let k = c.self.inside.kept in
+    let s = c.self.inside.settings in
+    let key : Key _ = record { wire = c.self.inside.wire; settings = s } in
+    let t = lists_of k.table in
+    let wire = g.W.Wire.meaning c.self.inside.wire in
+    λ reason closes.
+    let closed = (closed_cause g.W.Wire.meaning key k c.self.invariant c.self.view_is reason).1 closes in
+    subst (IsGivenOrNoMemory refusals.NoMemory c.apply_frame.result) (ap answer_of (shut refusals.Closed k.table.closed (Ok (received wire t c.args.frame (wire.reading_of c.args.frame))) reason closed)) c.apply_frame.ensures.answer

@@ -1,34 +1,64 @@
-use Rattle.std.proofs.Common.{◌≡◌, refl, arith, subst, Err}
-use Rattle.wire_frames.specs.declared.ends.Reason.{Reason}
+use Rattle.std.proofs.Common.{◌≡◌, length, refl, ap, subst, arith, nat_lt, Ok, Err}
+use Rattle.std.specs.Prelude.{if◌then◌else◌}
 use Rattle.conn_core.specs.Rooms.{lists_of}
-use Rattle.conn_core.specs.States.{State, connection_of}
-use Rattle.conn_core.specs.Steps.{answer_of, ask_lease, asked_answer}
-use Rattle.conn_core.specs.TableLaw.{ClosesWith}
+use Rattle.conn_core.specs.States.{Key, connection_of}
+use Rattle.conn_core.specs.Steps.{IsGivenOrNoMemory, answer_of, ask_lease, asked, asked_answer}
+use Rattle.conn_core.specs.Tables.{at_moment, waiters_limit}
 use Rattle.conn_core.specs.declared.answers.AskRefusal.TheVariants as refusals
 use Rattle.conn_core.specs.declared.entries.Event.TheVariants as events
-use Rattle.conn_core.proofs.AskLemmas.{ask_carries}
-use Rattle.conn_core.proofs.ClosedCauses.{ask_closed, closed_cause, given_closed}
-use Rattle.conn_core.proofs.StateLemmas.{called_state}
+use Rattle.conn_core.proofs.CauseLemmas.{ask_cause, closed_cause, seen}
+use Rattle.conn_core.proofs.RefusalLemmas.{given_refused, shut}
+use Rattle.conn_core.proofs.StateLemmas.{called_turns, goes_on, leads}
 use Rattle.conn_core.proofs.conn.ConnState.ask_lease.Goals as goal
 
 pub invariant_of-self : goal.invariant_of-self
 invariant_of-self g c =
     let k = c.self.inside.kept in
     let s = c.self.inside.settings in
-    let connection = connection_of g.W.Wire.meaning (record { wire = c.self.inside.wire; settings = s }) in
+    let key : Key _ = record { wire = c.self.inside.wire; settings = s } in
     let t = lists_of k.table in
-    let state = c.self.invariant in
+    let m = c.ask_lease.new.kept in
     let called = c.ask_lease.ensures in
-    called_state connection k c.ask_lease.new.kept c.args.actor (events.AskLease c.args.now) (ask_lease s t c.args.actor c.args.now) asked_answer refusals.NoMemory c.ask_lease.result state refl refl (ask_carries connection.wire.admits s t c.args.actor c.args.now (omega (arith, state.asks))) called.answer called.turned called.stays called.kept
+    let turned = called_turns s k.journal.items t (ask_lease s t c.args.actor c.args.now) (λ a. record { actor = c.args.actor; event = events.AskLease c.args.now; answer = asked_answer a }) refusals.NoMemory c.ask_lease.result m.journal.items (lists_of m.table) called.answer called.turned in
+    let law = g.met.W.Wire g.world.𝓛 g.world.𝓜 g.world.𝓡 ((λ s x. x), (λ x. x), (λ x. x), λ x. x) in
+    leads (connection_of g.W.Wire.meaning key) k m c.args.actor (events.AskLease c.args.now) (ask_lease s t c.args.actor c.args.now) asked_answer c.ask_lease.result (law.replies c.self.inside.wire) c.self.invariant refl tt refl turned called.stays called.kept
 
-pub returns-clause-legal : goal.returns-clause-legal
-returns-clause-legal g c = (invariant_of-self g c).legal
+pub returns-clause-goes_on : goal.returns-clause-goes_on
+returns-clause-goes_on g c =
+    let k = c.self.inside.kept in
+    let s = c.self.inside.settings in
+    let key : Key _ = record { wire = c.self.inside.wire; settings = s } in
+    let t = lists_of k.table in
+    let m = c.ask_lease.new.kept in
+    let called = c.ask_lease.ensures in
+    let turned = called_turns s k.journal.items t (ask_lease s t c.args.actor c.args.now) (λ a. record { actor = c.args.actor; event = events.AskLease c.args.now; answer = asked_answer a }) refusals.NoMemory c.ask_lease.result m.journal.items (lists_of m.table) called.answer called.turned in
+    goes_on g.W.Wire.meaning key k m c.args.actor (events.AskLease c.args.now) (ask_lease s t c.args.actor c.args.now) asked_answer c.ask_lease.result c.self.view_is (invariant_of-self g c) turned called.stays
 
 pub returns-clause-closed : goal.returns-clause-closed
 returns-clause-closed g c =
     let k = c.self.inside.kept in
     let s = c.self.inside.settings in
-    let connection = connection_of g.W.Wire.meaning (record { wire = c.self.inside.wire; settings = s }) in
+    let key : Key _ = record { wire = c.self.inside.wire; settings = s } in
     let t = lists_of k.table in
-    subst (λ (v : State _). (reason : Reason) → c.ask_lease.result ≡ Err (refusals.Closed reason) → ClosesWith v.journal reason) c.self.view_is
-    (λ reason is. closed_cause connection k reason c.self.invariant (ask_closed s t c.args.actor c.args.now reason (given_closed refusals.NoMemory (refusals.Closed reason) c.ask_lease.result (answer_of (ask_lease s t c.args.actor c.args.now)) (λ same. cc) c.ask_lease.ensures.answer is)))
+    λ reason is. (closed_cause g.W.Wire.meaning key k c.self.invariant c.self.view_is reason).0 (ask_cause s t c.args.actor c.args.now (refusals.Closed reason) (given_refused refusals.NoMemory (refusals.Closed reason) c.ask_lease.result (answer_of (ask_lease s t c.args.actor c.args.now)) (λ same. cc) c.ask_lease.ensures.answer is))
+
+pub returns-clause-once_closed : goal.returns-clause-once_closed
+returns-clause-once_closed g c =
+    let k = c.self.inside.kept in
+    let s = c.self.inside.settings in
+    let key : Key _ = record { wire = c.self.inside.wire; settings = s } in
+    let t = lists_of k.table in
+    λ reason closes.
+    let closed = (closed_cause g.W.Wire.meaning key k c.self.invariant c.self.view_is reason).1 closes in
+    subst (IsGivenOrNoMemory refusals.NoMemory c.ask_lease.result) (ap answer_of (shut refusals.Closed k.table.closed (if nat_lt (length t.waiting) waiters_limit then Ok (asked s (at_moment c.args.now t) c.args.actor) else Err refusals.QueueFull) reason closed)) c.ask_lease.ensures.answer
+
+pub returns-clause-queue_full : goal.returns-clause-queue_full
+returns-clause-queue_full g c =
+    let k = c.self.inside.kept in
+    let s = c.self.inside.settings in
+    let key : Key _ = record { wire = c.self.inside.wire; settings = s } in
+    let t = lists_of k.table in
+    λ is.
+    let full = ask_cause s t c.args.actor c.args.now refusals.QueueFull (given_refused refusals.NoMemory refusals.QueueFull c.ask_lease.result (answer_of (ask_lease s t c.args.actor c.args.now)) (λ same. cc) c.ask_lease.ensures.answer is) in
+    let few = c.self.invariant.room.room.waiting in
+    seen g.W.Wire.meaning key k c.self.invariant c.self.view_is (λ u. length u.waiting ≡ waiters_limit) (omega arith)

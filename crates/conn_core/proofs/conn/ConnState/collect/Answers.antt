@@ -1,23 +1,56 @@
-use Rattle.std.proofs.Common.{refl, arith, inl}
+use Rattle.std.proofs.Common.{◌∙◌, refl, inl, sym}
+use Rattle.conn_core.specs.Causes.{HasLiveRow, HasNoRow}
 use Rattle.conn_core.specs.Rooms.{lists_of}
-use Rattle.conn_core.specs.States.{connection_of}
+use Rattle.conn_core.specs.States.{Key, connection_of}
 use Rattle.conn_core.specs.Steps.{collect}
-use Rattle.conn_core.specs.declared.answers.TakeRefusal.TheVariants as takes
+use Rattle.conn_core.specs.declared.answers.TakeRefusal.TheVariants as refusals
 use Rattle.conn_core.specs.declared.entries.Answer.TheVariants as answers
 use Rattle.conn_core.specs.declared.entries.Event.TheVariants as events
-use Rattle.conn_core.proofs.AskLemmas.{collect_carries}
-use Rattle.conn_core.proofs.StateLemmas.{called_state}
+use Rattle.conn_core.proofs.CauseLemmas.{collect_cause, seen}
+use Rattle.conn_core.proofs.SoundLemmas.{collected_shaped}
+use Rattle.conn_core.proofs.StateLemmas.{called_turns, goes_on, leads}
 use Rattle.conn_core.proofs.conn.ConnState.collect.Goals as goal
 
 pub invariant_of-self : goal.invariant_of-self
 invariant_of-self g c =
     let k = c.self.inside.kept in
     let s = c.self.inside.settings in
-    let connection = connection_of g.W.Wire.meaning (record { wire = c.self.inside.wire; settings = s }) in
+    let key : Key _ = record { wire = c.self.inside.wire; settings = s } in
     let t = lists_of k.table in
-    let state = c.self.invariant in
+    let m = c.collect.new.kept in
     let called = c.collect.ensures in
-    called_state connection k c.collect.new.kept c.args.actor (events.Collect c.args.id) (collect t c.args.actor c.args.id) (λ outcome. answers.Collected outcome.kind) takes.NoRequest c.collect.result state refl refl (collect_carries connection.wire.admits t c.args.actor c.args.id (omega (arith, state.asks))) (inl called.answer) called.turned called.stays called.kept
+    let turned = called_turns s k.journal.items t (collect t c.args.actor c.args.id) (λ a. record { actor = c.args.actor; event = events.Collect c.args.id; answer = answers.Collected a.kind }) refusals.NoRequest c.collect.result m.journal.items (lists_of m.table) (inl called.answer) called.turned in
+    let law = g.met.W.Wire g.world.𝓛 g.world.𝓜 g.world.𝓡 ((λ s x. x), (λ x. x), (λ x. x), λ x. x) in
+    leads (connection_of g.W.Wire.meaning key) k m c.args.actor (events.Collect c.args.id) (collect t c.args.actor c.args.id) (λ outcome. answers.Collected outcome.kind) c.collect.result (law.replies c.self.inside.wire) c.self.invariant refl tt refl turned called.stays called.kept
 
-pub returns-clause-legal : goal.returns-clause-legal
-returns-clause-legal g c = (invariant_of-self g c).legal
+pub returns-clause-goes_on : goal.returns-clause-goes_on
+returns-clause-goes_on g c =
+    let k = c.self.inside.kept in
+    let s = c.self.inside.settings in
+    let key : Key _ = record { wire = c.self.inside.wire; settings = s } in
+    let t = lists_of k.table in
+    let m = c.collect.new.kept in
+    let called = c.collect.ensures in
+    let turned = called_turns s k.journal.items t (collect t c.args.actor c.args.id) (λ a. record { actor = c.args.actor; event = events.Collect c.args.id; answer = answers.Collected a.kind }) refusals.NoRequest c.collect.result m.journal.items (lists_of m.table) (inl called.answer) called.turned in
+    goes_on g.W.Wire.meaning key k m c.args.actor (events.Collect c.args.id) (collect t c.args.actor c.args.id) (λ outcome. answers.Collected outcome.kind) c.collect.result c.self.view_is (invariant_of-self g c) turned called.stays
+
+pub returns-clause-no_request : goal.returns-clause-no_request
+returns-clause-no_request g c =
+    let k = c.self.inside.kept in
+    let s = c.self.inside.settings in
+    let key : Key _ = record { wire = c.self.inside.wire; settings = s } in
+    let t = lists_of k.table in
+    λ is. seen g.W.Wire.meaning key k c.self.invariant c.self.view_is (λ u. HasNoRow u c.args.actor c.args.id) (collect_cause t c.args.actor c.args.id refusals.NoRequest (sym c.collect.ensures.answer ∙ is))
+
+pub returns-clause-pending : goal.returns-clause-pending
+returns-clause-pending g c =
+    let k = c.self.inside.kept in
+    let s = c.self.inside.settings in
+    let key : Key _ = record { wire = c.self.inside.wire; settings = s } in
+    let t = lists_of k.table in
+    λ is. seen g.W.Wire.meaning key k c.self.invariant c.self.view_is (λ u. HasLiveRow u c.args.actor c.args.id) (collect_cause t c.args.actor c.args.id refusals.Pending (sym c.collect.ensures.answer ∙ is))
+
+pub returns-clause-shaped : goal.returns-clause-shaped
+returns-clause-shaped g c =
+    let k = c.self.inside.kept in
+    collected_shaped (g.W.Wire.meaning c.self.inside.wire) (lists_of k.table) c.args.actor c.args.id c.collect.result c.collect.ensures.answer c.self.invariant.rows

@@ -1,8 +1,10 @@
 use Rattle.std.proofs.Common.{◌+◌, ◌<◌, ◌≤◌, ◌^◌, length, subst}
-use Rattle.conn_core.specs.States.{State, connection_of}
-use Rattle.conn_core.specs.TableLaw.{TableLaw}
+use Rattle.conn_core.specs.Journals.{AreAdmitted}
+use Rattle.conn_core.specs.States.{Key, State, connection_of}
+use Rattle.conn_core.specs.TableLaw.{NoneCloses}
+use Rattle.conn_core.proofs.CauseLemmas.{seen_law}
 use Rattle.conn_core.proofs.KeptLemmas.{kept_short, kept_within}
-use Rattle.conn_core.proofs.TableLemmas.{legal_law}
+use Rattle.conn_core.proofs.TableLemmas.{state_under_limit}
 use Rattle.conn_core.proofs.conn.ConnState.into_journal.Goals as goal
 
 pub returns-clause-short : goal.returns-clause-short
@@ -12,11 +14,16 @@ returns-clause-short g c =
 
 pub returns-clause-within : goal.returns-clause-within
 returns-clause-within g c =
-    let state = c.self.invariant in
-    subst (λ (v : State _). length v.journal ≤ v.key.settings.journal + 1025) c.self.view_is (kept_within c.self.inside.settings c.self.inside.kept state.room)
+    subst (λ (v : State _). length v.journal ≤ v.key.settings.journal + 1025) c.self.view_is (kept_within c.self.inside.settings c.self.inside.kept c.self.invariant.room)
 
-pub returns-clause-places : goal.returns-clause-places
-returns-clause-places g c =
-    let k = c.self.inside.kept in
-    let connection = connection_of g.W.Wire.meaning (record { wire = c.self.inside.wire; settings = c.self.inside.settings }) in
-    subst (λ (v : State _). TableLaw (connection_of g.W.Wire.meaning v.key) v.journal) c.self.view_is (legal_law connection k.journal.items c.self.invariant.legal)
+pub returns-clause-under_limit : goal.returns-clause-under_limit
+returns-clause-under_limit g c =
+    let key : Key _ = record { wire = c.self.inside.wire; settings = c.self.inside.settings } in
+    subst (λ (v : State _). NoneCloses v.journal → length v.journal < v.key.settings.journal) c.self.view_is (state_under_limit (connection_of g.W.Wire.meaning key) c.self.inside.kept c.self.invariant)
+
+pub returns-clause-admitted : goal.returns-clause-admitted
+returns-clause-admitted g c = subst (λ (v : State _). AreAdmitted (g.W.Wire.meaning v.key.wire) v.journal) c.self.view_is c.self.invariant.admitted
+
+pub returns-clause-by_places : goal.returns-clause-by_places
+returns-clause-by_places g c =
+    let key : Key _ = record { wire = c.self.inside.wire; settings = c.self.inside.settings } in seen_law g.W.Wire.meaning key c.self.inside.kept c.self.invariant c.self.view_is

@@ -1,0 +1,5 @@
+use Rattle.conn_core.proofs.FollowLemmas.{step_open}
+use Rattle.conn_core.proofs.laws.open_by_steps.Goals as goal
+
+pub returns : goal.returns
+returns c = step_open

@@ -1,0 +1,88 @@
+-- What a run comes to once the rest of its text is out.
+use Rattle.std.proofs.Common.{◌≡◌, ◌≢◌, ℕ, ◌⊎◌, List, [], ◌++◌, codes, Result, Ok, Err, refl, inl, inr, sym, ◌∙◌, subst, arith}
+use Rattle.std.specs.Result.{IfOk}
+use Rattle.std.proofs.lemmas.Bool.{cases_eq}
+use Rattle.std.proofs.lemmas.List.{append-nil}
+use Rattle.link_io.specs.Counts.{Rose}
+use Rattle.link_io.specs.Streams.{ShelfSeen, SinkSeen, SourceSeen, after_taking}
+use Rattle.plchost.specs.declared.faults.Cut.{Cut}
+use Rattle.plchost.specs.declared.faults.Cut.TheVariants.{NoMemory, WriteFault}
+use Rattle.plchost.specs.Runs.{IsRun, PutsFront, RunsTo, StopsEarly, last_of, shown}
+use Rattle.plchost.proofs.RunLemmas.{all_said, front_said, last_said_too}
+use Rattle.plchost.proofs.StatusLemmas.{cut_status}
+use Rattle.plchost.proofs.ToolLemmas.{front_of_tool}
+
+pub concluded : (words : List (List ℕ)) (counts_with : List ℕ → List ℕ → Type 0) (files files' : ShelfSeen) (input input' : SourceSeen) (o0 o1 o2 : SinkSeen) (t0 t1 out : List ℕ) (ran : Result ℕ Cut) (status : ℕ) → t0 ≡ [] → out ≡ t1
+    → RunsTo words counts_with (shown files input o0) (shown files' input' o1) t0 t1 ran
+    → (status ≢ 5 → (status ≡ (last_of ran).status) × (o2.held ≡ after_taking (out ++ (last_of ran).text) o1.held) × (o2.faults ≡ o1.faults))
+    → (status ≡ 5 → ran ≢ Err WriteFault → PutsFront o1.held o2.held (out ++ (last_of ran).text) × Rose o1.faults o2.faults)
+    → (ran ≡ Err WriteFault → (status ≡ 5) × (o2 ≡ o1))
+    → IsRun words counts_with (shown files input o0) (shown files' input' o2) status
+concluded words counts_with files files' input input' o0 o1 o2 t0 t1 out (Ok n) status empty same run done cut failed =
+    let s = run.said in
+    let known = cut_status words s.0 s.1 s.3 in
+    let well : o1.faults ≡ o0.faults = elim run.out_well [ inl bad ↦ absurd cc | inr kept ↦ kept ] in
+    record {
+      said = λ five eight. let end = done five in (s.0, s.1, s.2, s.3, all_said o0.held o1.held o2.held t0 t1 out s.1.text empty same s.4 end.1, end.0 ∙ s.5);
+      no_memory = λ eight.
+          let end = done (λ five. absurd (omega (arith, five, eight))) in
+          absurd (known.1 (sym s.5 ∙ sym end.0 ∙ eight));
+      write_fault = λ five.
+          let put = front_said o0.held o1.held o2.held t0 t1 out s.1.text [] empty same s.4 (cut five (λ e. absurd cc)).0 in
+          (s.0, s.1.text, s.2, inl (front_of_tool words s.0 s.1 s.3), subst (λ (xs : List ℕ). PutsFront o0.held o2.held xs) (append-nil s.1.text) put);
+      out_failed = λ five. subst (λ (count : ℕ). Rose count o2.faults) well (cut five (λ e. absurd cc)).1;
+      out_well = λ five. (done five).2 ∙ well;
+      files = run.files;
+    }
+concluded words counts_with files files' input input' o0 o1 o2 t0 t1 out (Err NoMemory) status empty same run done cut failed =
+    let s = run.no_memory refl in
+    let last = codes "no memory\n" in
+    let well : o1.faults ≡ o0.faults = elim run.out_well [ inl bad ↦ absurd cc | inr kept ↦ kept ] in
+    record {
+      said = λ five eight. absurd (eight (done five).0);
+      no_memory = λ eight.
+          let end = done (λ five. absurd (omega (arith, five, eight))) in
+          (s.0, s.1, s.2, s.3, last_said_too o0.held o1.held o2.held t0 t1 out s.1 last empty same s.4 end.1);
+      write_fault = λ five.
+          let put = front_said o0.held o1.held o2.held t0 t1 out s.1 last empty same s.4 (cut five (λ e. absurd cc)).0 in
+          (s.0, s.1 ++ last, s.2, inr (s.1, s.3, refl), put);
+      out_failed = λ five. subst (λ (count : ℕ). Rose count o2.faults) well (cut five (λ e. absurd cc)).1;
+      out_well = λ five. (done five).2 ∙ well;
+      files = run.files;
+    }
+concluded words counts_with files files' input input' o0 o1 o2 t0 t1 out (Err WriteFault) status empty same run done cut failed =
+    let s = run.cut refl in
+    let end = failed refl in
+    let put = subst (λ (t : List ℕ). PutsFront o0.held o1.held (t ++ s.1)) empty s.4 in
+    record {
+      said = λ five eight. absurd (five end.0);
+      no_memory = λ eight. absurd (omega (arith, eight, end.0));
+      write_fault = λ five. (s.0, s.1, s.2, inl s.3, subst (λ (o : SinkSeen). PutsFront o0.held o.held s.1) (sym end.1) put);
+      out_failed = λ five. subst (λ (o : SinkSeen). Rose o0.faults o.faults) (sym end.1) (run.out_failed refl);
+      out_well = λ five. absurd (five end.0);
+      files = run.files;
+    }
+
+early_status : (status : ℕ) → StopsEarly status → (status ≢ 5) × (status ≢ 8)
+early_status status (inl one) = (λ e. absurd (omega (arith, e, one)), λ e. absurd (omega (arith, e, one)))
+early_status status (inr (inl two)) = (λ e. absurd (omega (arith, e, two)), λ e. absurd (omega (arith, e, two)))
+early_status status (inr (inr (inl three))) = (λ e. absurd (omega (arith, e, three)), λ e. absurd (omega (arith, e, three)))
+early_status status (inr (inr (inr twelve))) = (λ e. absurd (omega (arith, e, twelve)), λ e. absurd (omega (arith, e, twelve)))
+
+-- a run that stops early came to the status that it answers
+pub early_of : (ran : Result ℕ Cut) (status : ℕ) (P : Type 0) → (status ≢ 5 → status ≡ (last_of ran).status) → StopsEarly status → IfOk ran (λ n. StopsEarly n → P) → P
+early_of (Ok n) status P done early then = then (subst StopsEarly (done (early_status status early).0) early)
+early_of (Err NoMemory) status P done early then =
+    let known = early_status status early in absurd (known.1 (done known.0))
+early_of (Err WriteFault) status P done early then =
+    let known = early_status status early in absurd (known.0 (done known.0))
+
+-- so did a run whose file there isn't
+lacking_at : (ran : Result ℕ Cut) (status : ℕ) → status ≡ (last_of ran).status → IfOk ran (λ n. n ≡ 3) → (status ≡ 3) ⊎ ((status ≡ 5) ⊎ (status ≡ 8))
+lacking_at (Ok n) status done three = inl (done ∙ three)
+lacking_at (Err NoMemory) status done three = inr (inr done)
+lacking_at (Err WriteFault) status done three = inr (inl done)
+
+pub lacking_of : (ran : Result ℕ Cut) (status : ℕ) → (status ≢ 5 → status ≡ (last_of ran).status) → IfOk ran (λ n. n ≡ 3) → (status ≡ 3) ⊎ ((status ≡ 5) ⊎ (status ≡ 8))
+lacking_of ran status done three =
+    elim (cases_eq status 5) [ inl five ↦ inr (inl five) | inr well ↦ lacking_at ran status (done well) three ]
