@@ -3,8 +3,8 @@
 
     python3 bench/faults.py            # after `rt ci`, or `rt run` in crates/plchost, which leave the proved program
 
-A run whose allocation fails must put out a front of what the run without a fault puts out, then `no memory`, with status 8; or
-all of it, with the status of that run, where it did without. One whose read or opening of FILE fails must say `file fault`,
+A run whose allocation fails must put out a front of what the run without a fault puts out, whole lines of it, then `no memory`,
+with status 8; or all of it, with the status of that run, where it did without. One whose read or opening of FILE fails must say `file fault`,
 with status 3; one whose read of the input fails must put out a front and then `read fault`, with status 4, or all of it where a
 line was refused before; and one whose write fails must put out a front, with status 5. A small C library (`faults.c`) that is
 loaded before the C library lets a call fail.
@@ -57,7 +57,9 @@ def run(folder, words, given, kind, at):
 def is_front(status, out, whole):
     """Whether a run with this status put out a front of the text, and then its last line."""
     last = LAST[status]
-    return out.endswith(last) and whole.startswith(out[:len(out) - len(last)])
+    front = out[:len(out) - len(last)]
+    whole_lines = status != 8 or not front or front.endswith(b"\n")
+    return out.endswith(last) and whole.startswith(front) and whole_lines
 
 
 def check(folder, name, words, given, kind):

@@ -9,3 +9,7 @@ IsFeedless bytes = AllByRecursion (λ b. b ≢ 10) bytes
 -- words that stand apart by one blank: what stands between blanks is never empty
 abbrev pub IsSpaced : List ℕ → Type 0
 IsSpaced bytes = AllByRecursion (λ word. word ≢ []) (slice_split (λ b. b == 32) bytes)
+
+-- one line of words
+abbrev pub IsWordLine : List ℕ → Type 0
+IsWordLine bytes = IsFeedless bytes × IsSpaced bytes

@@ -7,7 +7,7 @@ use Rattle.std.proofs.lemmas.Bool.{and_parts}
 use Rattle.std.proofs.lemmas.List.Sums.{sum_by-cons, sum_by_push}
 use Rattle.wire_frames.specs.declared.ends.Outcome.{Outcome}
 use Rattle.conn_core.specs.Finds.{change_first, remove_first}
-use Rattle.conn_core.specs.Rooms.{Capacities, HasTurnRoom, IsRoomy, entries_of, phase_entries, phase_references, references_kept, zero_reference, zero_row}
+use Rattle.conn_core.specs.Rooms.{Capacities, HasTurnRoom, IsRoomy, entries_of, phase_entries, phase_references, references_kept, outside, row_outside}
 use Rattle.conn_core.specs.Steps.{Request, asked, asked_if, started}
 use Rattle.conn_core.specs.Tables.{Table, at_moment, deadline_of, ended_row, is_queued, sent_row}
 use Rattle.conn_core.specs.declared.rows.Phase.TheVariants.{Queued, Ended}
@@ -46,7 +46,7 @@ asked_if_room s n room t actor now true test unclosed few share more h =
       leases_drawn = omega arith;
       requests_drawn = omega arith;
       frames_taken = omega arith;
-      zeros = h.zeros;
+      in_range = h.in_range;
     }
 asked_if_room s n room t actor now false test unclosed few share more h =
     let all = entries_of_rows t.rows in
@@ -63,7 +63,7 @@ asked_if_room s n room t actor now false test unclosed few share more h =
       leases_drawn = omega arith;
       requests_drawn = omega arith;
       frames_taken = omega arith;
-      zeros = h.zeros;
+      in_range = h.in_range;
     }
 
 pub asked_room : (s : Settings) (n : ℕ) (room : Capacities) (t : Table) (actor now : ℕ) → t.closed ≡ None → length t.waiting < 64 → s.share ≤ 64 → HasTurnRoom n room t → IsRoomy s n room t
@@ -79,8 +79,8 @@ started_room s n room t q frame reference rest unclosed free few more h =
     let row : Row = record { id = t.requests_drawn + 1; actor = q.actor; lease = q.lease; ask = q.ask; reference = reference; deadline = deadline_of (max t.clock q.moment) q.timeout; phase = Queued frame } in
     let entries = sum_by_push entries_of t.rows row in
     let kept = sum_by_push references_kept t.rows row in
-    let zeros = sum_by_push zero_row t.rows row in
-    let none : sum_by zero_reference t.free ≡ zero_reference reference + sum_by zero_reference rest = ap (sum_by zero_reference) free ∙ sum_by-cons zero_reference reference rest in
+    let in_range = sum_by_push (row_outside s.references) t.rows row in
+    let none : sum_by (outside s.references) t.free ≡ (outside s.references) reference + sum_by (outside s.references) rest = ap (sum_by (outside s.references)) free ∙ sum_by-cons (outside s.references) reference rest in
     let drawn : length t.free ≡ suc (length rest) = ap length free in
     record {
       journal = omega arith;
@@ -94,7 +94,7 @@ started_room s n room t q frame reference rest unclosed free few more h =
       leases_drawn = omega arith;
       requests_drawn = omega arith;
       frames_taken = omega arith;
-      zeros = omega arith;
+      in_range = omega arith;
     }
 
 pub sent_room : (s : Settings) (n : ℕ) (room : Capacities) (t : Table) (row : Row) (frame : List ℕ) → t.closed ≡ None → find is_queued t.rows ≡ Some row → row.phase ≡ Queued frame → IsRoomy s n room t
@@ -104,7 +104,7 @@ sent_room s n room t row frame unclosed found queued h =
     let kept = weight_change references_kept is_queued sent_row t.rows row found in
     let was : entries_of row ≡ 3 = ap phase_entries queued in
     let had : references_kept row ≡ 1 = ap phase_references queued in
-    let zeros = weight_change zero_row is_queued sent_row t.rows row found in
+    let in_range = weight_change (row_outside s.references) is_queued sent_row t.rows row found in
     let len = length-change_first is_queued sent_row t.rows in
     record {
       journal = omega arith;
@@ -118,16 +118,16 @@ sent_room s n room t row frame unclosed found queued h =
       leases_drawn = omega arith;
       requests_drawn = omega arith;
       frames_taken = omega arith;
-      zeros = omega arith;
+      in_range = omega arith;
     }
 
 -- a live row ends, and its reference goes to one list or the other
-pub ended_room : (s : Settings) (n m : ℕ) (room : Capacities) (t : Table) (p : Row → Bool) (row : Row) (outcome : Outcome) (free quarantined : List ℕ) → m ≤ n + 1 → find p t.rows ≡ Some row → references_kept row ≡ 1 → 2 ≤ entries_of row → length free + length quarantined ≡ length t.free + length t.quarantined + 1 → sum_by zero_reference free + sum_by zero_reference quarantined ≤ sum_by zero_reference t.free + sum_by zero_reference t.quarantined + sum_by zero_row t.rows → IsRoomy s n room t
+pub ended_room : (s : Settings) (n m : ℕ) (room : Capacities) (t : Table) (p : Row → Bool) (row : Row) (outcome : Outcome) (free quarantined : List ℕ) → m ≤ n + 1 → find p t.rows ≡ Some row → references_kept row ≡ 1 → 2 ≤ entries_of row → length free + length quarantined ≡ length t.free + length t.quarantined + 1 → sum_by (outside s.references) free + sum_by (outside s.references) quarantined ≤ sum_by (outside s.references) t.free + sum_by (outside s.references) t.quarantined + sum_by (row_outside s.references) t.rows → IsRoomy s n room t
     → IsRoomy s (n + 1) room (record t { rows = change_first p (ended_row outcome) t.rows; free = free; quarantined = quarantined; frames_taken = m })
 ended_room s n m room t p row outcome free quarantined fewer found had was given clean h =
     let entries = weight_change entries_of p (ended_row outcome) t.rows row found in
     let kept = weight_change references_kept p (ended_row outcome) t.rows row found in
-    let zeros = weight_change zero_row p (ended_row outcome) t.rows row found in
+    let in_range = weight_change (row_outside s.references) p (ended_row outcome) t.rows row found in
     let len = length-change_first p (ended_row outcome) t.rows in
     record {
       journal = omega arith;
@@ -141,11 +141,11 @@ ended_room s n m room t p row outcome free quarantined fewer found had was given
       leases_drawn = omega arith;
       requests_drawn = omega arith;
       frames_taken = omega arith;
-      zeros = omega arith;
+      in_range = omega arith;
     }
 
 -- a frame ends nothing
-pub passed_room : (s : Settings) (n m : ℕ) (room : Capacities) (t : Table) (free quarantined : List ℕ) → m ≤ n + 1 → t.closed ≡ None → length free + length quarantined ≡ length t.free + length t.quarantined → sum_by zero_reference free + sum_by zero_reference quarantined ≤ sum_by zero_reference t.free + sum_by zero_reference t.quarantined → HasTurnRoom n room t → IsRoomy s n room t
+pub passed_room : (s : Settings) (n m : ℕ) (room : Capacities) (t : Table) (free quarantined : List ℕ) → m ≤ n + 1 → t.closed ≡ None → length free + length quarantined ≡ length t.free + length t.quarantined → sum_by (outside s.references) free + sum_by (outside s.references) quarantined ≤ sum_by (outside s.references) t.free + sum_by (outside s.references) t.quarantined → HasTurnRoom n room t → IsRoomy s n room t
     → IsRoomy s (n + 1) room (record t { free = free; quarantined = quarantined; frames_taken = m })
 passed_room s n m room t free quarantined fewer unclosed given clean more h =
     let all = entries_of_rows t.rows in
@@ -162,7 +162,7 @@ passed_room s n m room t free quarantined fewer unclosed given clean more h =
       leases_drawn = omega arith;
       requests_drawn = omega arith;
       frames_taken = omega arith;
-      zeros = omega arith;
+      in_range = omega arith;
     }
 
 pub collected_room : (s : Settings) (n : ℕ) (room : Capacities) (t : Table) (p : Row → Bool) (row : Row) (outcome : Outcome) → find p t.rows ≡ Some row → row.phase ≡ Ended outcome → IsRoomy s n room t
@@ -171,7 +171,7 @@ collected_room s n room t p row outcome found ended h =
     let entries = weight_remove entries_of p t.rows row found in
     let kept = weight_remove references_kept p t.rows row found in
     let was : entries_of row ≡ 1 = ap phase_entries ended in
-    let zeros = weight_remove zero_row p t.rows row found in
+    let in_range = weight_remove (row_outside s.references) p t.rows row found in
     let len = length-remove_first p t.rows row found in
     record {
       journal = omega arith;
@@ -185,5 +185,5 @@ collected_room s n room t p row outcome found ended h =
       leases_drawn = omega arith;
       requests_drawn = omega arith;
       frames_taken = omega arith;
-      zeros = omega arith;
+      in_range = omega arith;
     }

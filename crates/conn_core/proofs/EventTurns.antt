@@ -6,7 +6,7 @@ use Rattle.std.proofs.lemmas.Bool.Decides.{nat_tests}
 use Rattle.std.proofs.lemmas.List.Sums.{sum_by-append}
 use Rattle.wire_frames.specs.declared.ends.Outcome.{Outcome}
 use Rattle.wire_frames.specs.declared.ends.Reason.{Reason}
-use Rattle.conn_core.specs.Rooms.{CanTurn, Capacities, HasTurnRoom, IsRoomy, IsUnderWay, phase_entries, phase_references, zero_reference, zero_row}
+use Rattle.conn_core.specs.Rooms.{CanTurn, Capacities, HasTurnRoom, IsRoomy, IsUnderWay, phase_entries, phase_references, outside, row_outside}
 use Rattle.conn_core.specs.Steps.{answer_of, ask_lease, asked, asked_if, cancel, cancel_row, cancelled, collect, collect_row, table_or, take_send, when_open, with_cancelled, with_collected, with_queued, with_queued_frame}
 use Rattle.conn_core.specs.Tables.{Table, at_moment, is_queued, is_row_of, is_sent}
 use Rattle.conn_core.specs.declared.answers.AskRefusal.TheVariants as asks
@@ -70,11 +70,11 @@ cancel_turns_phase : (s : Settings) (n : ℕ) (room : Capacities) (t : Table) (a
 cancel_turns_phase s n room t actor id row (Queued frame) is found given h way =
     let had = ap phase_references is in
     let was = ap phase_entries is in
-    record { after = ended_room s n t.frames_taken room t (is_row_of actor id) row cancelled (t.free ++ row.reference ∷ []) t.quarantined (omega arith) found had (omega arith) (omega (arith, length-append t.free (row.reference ∷ []))) (let zero = weight_found zero_row (is_row_of actor id) t.rows row found in omega (arith, sum_by-append zero_reference t.free (row.reference ∷ []))) h; under_way = way }
+    record { after = ended_room s n t.frames_taken room t (is_row_of actor id) row cancelled (t.free ++ row.reference ∷ []) t.quarantined (omega arith) found had (omega arith) (omega (arith, length-append t.free (row.reference ∷ []))) (let zero = weight_found (row_outside s.references) (is_row_of actor id) t.rows row found in omega (arith, sum_by-append (outside s.references) t.free (row.reference ∷ []))) h; under_way = way }
 cancel_turns_phase s n room t actor id row Sent is found given h way =
     let had = ap phase_references is in
     let was = ap phase_entries is in
-    record { after = ended_room s n t.frames_taken room t (is_row_of actor id) row cancelled t.free (t.quarantined ++ row.reference ∷ []) (omega arith) found had (omega arith) (omega (arith, length-append t.quarantined (row.reference ∷ []))) (let zero = weight_found zero_row (is_row_of actor id) t.rows row found in omega (arith, sum_by-append zero_reference t.quarantined (row.reference ∷ []))) h; under_way = way }
+    record { after = ended_room s n t.frames_taken room t (is_row_of actor id) row cancelled t.free (t.quarantined ++ row.reference ∷ []) (omega arith) found had (omega arith) (omega (arith, length-append t.quarantined (row.reference ∷ []))) (let zero = weight_found (row_outside s.references) (is_row_of actor id) t.rows row found in omega (arith, sum_by-append (outside s.references) t.quarantined (row.reference ∷ []))) h; under_way = way }
 cancel_turns_phase s n room t actor id row (Ended outcome) is found given h way = cc
 
 cancel_turns_row : (s : Settings) (n : ℕ) (room : Capacities) (t : Table) (actor id : ℕ) (o : Option Row) → find (is_row_of actor id) t.rows ≡ o → Ok tt ≡ answer_of (with_cancelled t actor id o) → IsRoomy s n room t → IsUnderWay s n t

@@ -1,6 +1,7 @@
 -- How the program's lists follow a frame.
-use Rattle.std.proofs.Common.{◌≡◌, ℕ, true, List, [], ◌∷◌, ◌++◌, Some, set, get_or, refl, sym, ap, ◌∙◌}
+use Rattle.std.proofs.Common.{◌≡◌, ℕ, Bool, true, arith, List, [], ◌∷◌, ◌++◌, Some, set, get_or, refl, sym, ap, ◌∙◌}
 use Rattle.std.specs.List.{find}
+use Rattle.std.proofs.lemmas.Bool.Decides.{nat_tests}
 use Rattle.std.proofs.lemmas.Bool.{and_parts}
 use Rattle.node_tree.specs.declared.readings.Reading.{Reading}
 use Rattle.wire_frames.specs.WireMeaning.{WireMeaning}
@@ -8,7 +9,7 @@ use Rattle.wire_frames.specs.declared.ends.Outcome.{Outcome}
 use Rattle.conn_core.specs.Finds.{IsFirstAt, change_first}
 use Rattle.conn_core.specs.Rooms.{phase_entries, phase_references, references_kept, entries_of}
 use Rattle.conn_core.specs.Steps.{arrived}
-use Rattle.conn_core.specs.Tables.{Table, ended_row, is_sent, is_sent_with, phase_sent}
+use Rattle.conn_core.specs.Tables.{Table, ended_row, is_reference, is_sent, is_sent_with, phase_sent}
 use Rattle.conn_core.specs.declared.rows.Phase.{Phase}
 use Rattle.conn_core.specs.declared.rows.Phase.TheVariants.{Queued, Sent, Ended}
 use Rattle.conn_core.specs.declared.rows.Row.{Row}
@@ -22,6 +23,10 @@ phase_causes : (phase : Phase) → phase_sent phase ≡ true → phase_entries p
 phase_causes (Queued frame) h = cc
 phase_causes Sent h = refl
 phase_causes (Ended outcome) h = cc
+
+-- a reference that is found is the one that was sought
+pub reference_is : (reference r : ℕ) (b : Bool) → is_reference reference r ≡ b → b ≡ true → r ≡ reference
+reference_is reference r b is h = let same : is_reference reference r ≡ true = is ∙ h in grind (arith, nat_tests)
 
 -- a row that was sent keeps its reference, and can end and be collected
 pub sent_keeps : (reference : ℕ) (row : Row) → is_sent_with reference row ≡ true → references_kept row ≡ 1

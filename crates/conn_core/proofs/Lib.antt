@@ -1,5 +1,7 @@
+pub mod AllLemmas
 pub mod CauseLemmas
 pub mod EndLemmas
+pub mod EntryLemmas
 pub mod EventRoom
 pub mod EventTurns
 pub mod FirstLemmas
@@ -7,14 +9,18 @@ pub mod FollowLemmas
 pub mod FrameLemmas
 pub mod FrameTurns
 pub mod FrontLemmas
+pub mod HandedLemmas
 pub mod KeptLemmas
 pub mod OpeningLemmas
+pub mod PartLemmas
 pub mod PlaceLemmas
 pub mod RefusalLemmas
 pub mod RoomLemmas
-pub mod SoundLemmas
+pub mod RowLemmas
 pub mod StateLemmas
 pub mod StepRoom
 pub mod SubmitTurns
 pub mod TableLemmas
+pub mod TakenSteps
 pub mod TurnLemmas
+pub mod WalkLemmas

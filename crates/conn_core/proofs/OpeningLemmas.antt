@@ -1,34 +1,34 @@
 -- The opening table.
-use Rattle.std.proofs.Common.{◌≡◌, ℕ, zero, suc, ◌+◌, ◌<◌, ◌≤◌, ◌==◌, false, cond, List, [], ◌∷◌, ◌++◌, None, length, refl, sym, ap, ◌∙◌, arith, vec_len}
+use Rattle.std.proofs.Common.{◌≡◌, ℕ, zero, suc, ◌+◌, ◌≤◌, List, [], ◌∷◌, ◌++◌, None, length, refl, sym, ap, ◌∙◌, arith, vec_len}
 use Rattle.std.specs.Prelude.{sum_by}
 use Rattle.std.specs.List.{range_with_len}
-use Rattle.std.proofs.lemmas.Bool.Decides.{nat_tests}
 use Rattle.std.proofs.lemmas.List.FromFn.{length-range_with_len}
 use Rattle.std.proofs.lemmas.List.Sums.{sum_by-cons}
-use Rattle.conn_core.specs.Rooms.{Capacities, IsKept, IsRoomy, IsUnderWay, capacities_of, lists_of, zero_reference}
+use Rattle.conn_core.specs.Rooms.{Capacities, IsKept, IsRoomy, IsUnderWay, capacities_of, lists_of, outside}
 use Rattle.conn_core.specs.Tables.{IsSettings, Table, opening}
 use Rattle.conn_core.specs.declared.kept.Kept.{Kept}
 use Rattle.conn_core.specs.declared.rows.Lease.{Lease}
 use Rattle.conn_core.specs.declared.rows.Row.{Row}
 use Rattle.conn_core.specs.declared.settings.Settings.{Settings}
 use Rattle.conn_core.proofs.KeptLemmas.{moved}
+use Rattle.conn_core.proofs.RoomLemmas.{not_outside}
 
 pub range_more : (a n : ℕ) → range_with_len a (suc n) ≡ range_with_len a n ++ (a + n) ∷ []
 range_more a zero = ap (λ b. b ∷ []) (omega arith)
 range_more a (suc n) = let next : (a + 1) + n ≡ a + suc n = omega arith in ap (λ ns. a ∷ ns) (range_more (a + 1) n ∙ ap (λ b. range_with_len (a + 1) n ++ b ∷ []) next)
 
-above_zero : (n : ℕ) → 0 < n → zero_reference n ≡ 0
-above_zero zero h = absurd (omega arith)
-above_zero (suc n) h = let other : (suc n == 0) ≡ false = grind (arith, nat_tests) in ap (λ b. cond b 1 0) other
-
-range_zeros : (a n : ℕ) → 0 < a → sum_by zero_reference (range_with_len a n) ≡ 0
-range_zeros a zero h = refl
-range_zeros a (suc n) h = let one = above_zero a h in let rest = range_zeros (a + 1) n (omega arith) in let all = sum_by-cons zero_reference a (range_with_len (a + 1) n) in omega arith
+range_inside : (references a n : ℕ) → 1 ≤ a → a + n ≤ references + 1 → sum_by (outside references) (range_with_len a n) ≡ 0
+range_inside references a zero h k = refl
+range_inside references a (suc n) h k =
+    let one = not_outside references a h (omega arith) in
+    let rest = range_inside references (a + 1) n (omega arith) (omega arith) in
+    let all = sum_by-cons (outside references) a (range_with_len (a + 1) n) in
+    omega arith
 
 opening_room : (s : Settings) (room : Capacities) → IsSettings s → 1 ≤ room.journal → s.references ≤ room.free → s.references ≤ room.quarantined → IsRoomy s 0 room (opening s)
 opening_room s room settings a b c =
     let len = length-range_with_len 1 s.references in
-    let none = range_zeros 1 s.references (omega arith) in
+    let none = range_inside s.references 1 s.references (omega arith) (omega arith) in
     record {
       journal = omega arith;
       references = omega arith;
@@ -41,7 +41,7 @@ opening_room s room settings a b c =
       leases_drawn = omega arith;
       requests_drawn = omega arith;
       frames_taken = omega arith;
-      zeros = omega arith;
+      in_range = omega arith;
     }
 
 pub opened_kept : (s : Settings) (k : Kept) → IsSettings s → k.journal.items ≡ [] → lists_of k.table ≡ opening s → 1 ≤ (capacities_of k).journal → s.references ≤ (capacities_of k).free → s.references ≤ (capacities_of k).quarantined → IsKept s k

@@ -1,12 +1,11 @@
 -- A journal with one entry more, by its places.
-use Rattle.std.proofs.Common.{◌≡◌, ◌⊎◌, inl, inr, ℕ, zero, suc, ◌+◌, Bool, true, false, cond, arith, count_by, List, [], ◌∷◌, ◌++◌, Option, Some, None, length, refl, sym, ap, subst, append_assoc, ◌∙◌}
+use Rattle.std.proofs.Common.{◌≡◌, ◌⊎◌, inl, inr, ℕ, zero, suc, ◌+◌, ◌<◌, Bool, true, false, cond, arith, count_by, List, [], ◌∷◌, ◌++◌, Option, Some, None, length, refl, sym, ap, subst, append_assoc, ◌∙◌}
 use Rattle.std.specs.Prelude.{◌↔◌}
 use Rattle.std.specs.List.{slice_get}
 use Rattle.std.proofs.lemmas.List.Sums.{sum_by_push}
-use Rattle.wire_frames.specs.WireMeaning.{WireMeaning}
 use Rattle.wire_frames.specs.declared.ends.Reason.{Reason}
-use Rattle.conn_core.specs.Entries.{clock_by, clock_from, clock_of, closing_reason, frames_in, is_frame, is_submit, requests_in}
-use Rattle.conn_core.specs.Journals.{AreAdmitted, IsAdmitted, turn_if, worn_entry}
+use Rattle.conn_core.specs.Entries.{clock_by, clock_from, clock_of, closing_reason, asks_in, frames_in, is_ask, is_frame, is_submit, requests_in}
+use Rattle.conn_core.specs.Journals.{turn_if, worn_entry}
 use Rattle.conn_core.specs.LeaseLists.{LeaseLists, leases_after, leases_from, no_leases}
 use Rattle.conn_core.specs.TableLaw.{ClosesWith, leases_in}
 use Rattle.conn_core.specs.Tables.{Table}
@@ -14,7 +13,7 @@ use Rattle.conn_core.specs.declared.entries.Entry.{Entry}
 use Rattle.conn_core.specs.declared.settings.Settings.{Settings}
 use Rattle.conn_core.proofs.FollowLemmas.{Follows, closed_after, counts_if}
 
-clock_more : (clock : ℕ) (xs : List Entry) (e : Entry) → clock_from clock (xs ++ e ∷ []) ≡ clock_by (clock_from clock xs) e.event
+pub clock_more : (clock : ℕ) (xs : List Entry) (e : Entry) → clock_from clock (xs ++ e ∷ []) ≡ clock_by (clock_from clock xs) e.event
 clock_more clock [] e = refl
 clock_more clock (x ∷ xs) e = clock_more (clock_by clock x.event) xs e
 
@@ -22,14 +21,25 @@ leases_more : (s : Settings) (l : LeaseLists) (xs : List Entry) (e : Entry) → 
 leases_more s l [] e = refl
 leases_more s l (x ∷ xs) e = leases_more s (leases_after s l x) xs e
 
-stands_before : (xs : List Entry) (e : Entry) (k : ℕ) (x : Entry) → slice_get xs k ≡ Some x → slice_get (xs ++ e ∷ []) k ≡ Some x
+pub stands_before : (xs : List Entry) (e : Entry) (k : ℕ) (x : Entry) → slice_get xs k ≡ Some x → slice_get (xs ++ e ∷ []) k ≡ Some x
 stands_before [] e k x h = absurd (cc)
 stands_before (y ∷ ys) e zero x h = h
 stands_before (y ∷ ys) e (suc k) x h = stands_before ys e k x h
 
-stands_last : (xs : List Entry) (e : Entry) → slice_get (xs ++ e ∷ []) (length xs) ≡ Some e
+pub stands_last : (xs : List Entry) (e : Entry) → slice_get (xs ++ e ∷ []) (length xs) ≡ Some e
 stands_last [] e = refl
 stands_last (y ∷ ys) e = stands_last ys e
+
+-- what stands in it stood there before, or is the last entry
+pub place_cases : (xs : List Entry) (e : Entry) (k : ℕ) (x : Entry) → slice_get (xs ++ e ∷ []) k ≡ Some x → ((k < length xs) × (slice_get xs k ≡ Some x)) ⊎ ((k ≡ length xs) × (e ≡ x))
+place_cases [] e zero x h = inr (refl, cc)
+place_cases [] e (suc k) x h = absurd (cc)
+place_cases (y ∷ ys) e zero x h = inl (omega arith, h)
+place_cases (y ∷ ys) e (suc k) x h =
+    elim (place_cases ys e k x h) [
+      | inl before ↦ let below = before.0 in inl (omega arith, before.1)
+      | inr last ↦ inr (ap suc last.0, last.1)
+    ]
 
 -- what stands in it stood before, or is the last entry
 stands_cases : (xs : List Entry) (e : Entry) (k : ℕ) (x : Entry) → slice_get (xs ++ e ∷ []) k ≡ Some x → (slice_get xs k ≡ Some x) ⊎ (e ≡ x)
@@ -67,6 +77,7 @@ pub record IsAfter (s : Settings) (journal : List Entry) (t : Table) : Type 0 wh
   pub closed : (reason : Reason) → (t.closed ≡ Some reason) ↔ ClosesWith journal reason
   pub frames : t.frames_taken ≡ frames_in journal
   pub requests : t.requests_drawn ≡ requests_in journal
+  pub asks : t.leases_drawn ≡ asks_in journal
 
 closed_then : (journal : List Entry) (e : Entry) (was now : Option Reason) (reason : Reason) (o : Option Reason) → closing_reason e ≡ o → now ≡ closed_after o was → (was ≡ Some reason → ClosesWith journal reason) → now ≡ Some reason → ClosesWith (journal ++ e ∷ []) reason
 closed_then journal e was now reason None is after before h = closes_before journal e reason (before (sym after ∙ h))
@@ -95,18 +106,19 @@ one_more s journal t e u after follows =
       );
       frames = count_more (λ x. is_frame x.event) journal e t.frames_taken u.frames_taken after.frames follows.frames;
       requests = count_more (λ x. is_submit x.event) journal e t.requests_drawn u.requests_drawn after.requests follows.requests;
+      asks = count_more (λ x. is_ask x.event) journal e t.leases_drawn u.leases_drawn after.asks follows.asks;
     }
 
--- a request more that may be handed in
-pub admitted_more : (wire : WireMeaning) (journal : List Entry) (e : Entry) → AreAdmitted wire journal → IsAdmitted wire e.event → AreAdmitted wire (journal ++ e ∷ [])
-admitted_more wire journal e before last = λ k x stands.
+-- what holds of each entry, and of one entry more
+each_more : (P : Entry → Type 0) (journal : List Entry) (e : Entry) → ((k : ℕ) (x : Entry) → slice_get journal k ≡ Some x → P x) → P e → (k : ℕ) (x : Entry) → slice_get (journal ++ e ∷ []) k ≡ Some x → P x
+each_more P journal e before last = λ k x stands.
     elim (stands_cases journal e k x stands) [
       | inl stood ↦ before k x stood
-      | inr same ↦ subst (λ (y : Entry). IsAdmitted wire y.event) same last
+      | inr same ↦ subst P same last
     ]
 
--- a turn more; the close by a full journal is no request
-pub admitted_turn : (wire : WireMeaning) (journal : List Entry) (e : Entry) (b : Bool) → AreAdmitted wire journal → IsAdmitted wire e.event → AreAdmitted wire (journal ++ turn_if b e)
-admitted_turn wire journal e false before last = admitted_more wire journal e before last
-admitted_turn wire journal e true before last =
-    subst (AreAdmitted wire) (append_assoc journal (e ∷ []) (worn_entry e.actor ∷ [])) (admitted_more wire (journal ++ e ∷ []) (worn_entry e.actor) (admitted_more wire journal e before last) tt)
+-- the same for one turn more
+pub each_turn : (P : Entry → Type 0) (journal : List Entry) (e : Entry) (b : Bool) → ((k : ℕ) (x : Entry) → slice_get journal k ≡ Some x → P x) → P e → P (worn_entry e.actor) → (k : ℕ) (x : Entry) → slice_get (journal ++ turn_if b e) k ≡ Some x → P x
+each_turn P journal e false before last worn = each_more P journal e before last
+each_turn P journal e true before last worn =
+    subst (λ (xs : List Entry). (k : ℕ) (x : Entry) → slice_get xs k ≡ Some x → P x) (append_assoc journal (e ∷ []) (worn_entry e.actor ∷ [])) (each_more P (journal ++ e ∷ []) (worn_entry e.actor) (each_more P journal e before last) worn)

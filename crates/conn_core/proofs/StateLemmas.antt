@@ -1,14 +1,12 @@
 -- A turn that was written down leads from one state to the next.
-use Rattle.std.proofs.Common.{◌≡◌, ◌⊎◌, inl, inr, ℕ, ◌+◌, Bool, true, false, List, [], ◌∷◌, ◌++◌, Option, Some, None, Result, Ok, Err, length, refl, sym, ap, ◌∙◌, subst}
+use Rattle.std.proofs.Common.{◌≡◌, ◌⊎◌, inl, inr, ℕ, ◌+◌, Bool, true, false, List, [], ◌∷◌, ◌++◌, Option, Some, None, Result, Ok, Err, length, refl, sym, ap, ◌∙◌, subst, vec_len}
 use Rattle.std.specs.Prelude.{IfOk, OnErr, OnOk}
-use Rattle.std.proofs.lemmas.List.Elements.{All-nil}
 use Rattle.wire_frames.specs.WireMeaning.{WireMeaning}
 use Rattle.wire_frames.specs.declared.ends.Reason.{Reason}
 use Rattle.wire_frames.specs.declared.ends.Reason.TheVariants as reasons
-use Rattle.conn_core.specs.Journals.{AreAdmitted, IsAdmitted, Legal, opened, turned, after_entries, after_entry, after_step, is_worn, settled, settled_if, table_of, turn_if, turn_of, wears, worn_entry}
-use Rattle.conn_core.specs.Rooms.{IsKept, Stays, Turns, TurnsAs, lists_of}
+use Rattle.conn_core.specs.Journals.{AreAdmitted, AreCarried, IsAdmitted, IsCarriedBy, Legal, opened, turned, after_entries, after_entry, after_step, is_worn, settled, settled_if, table_of, turn_if, turn_of, wears, worn_entry}
+use Rattle.conn_core.specs.Rooms.{IsKept, Stays, Turns, TurnsAs, capacities_of, lists_of}
 use Rattle.conn_core.specs.KeptStates.{IsState}
-use Rattle.conn_core.specs.SoundRows.{IsSoundRow}
 use Rattle.conn_core.specs.States.{GoesOn, Grows, Key, State, connection_of, grown}
 use Rattle.conn_core.specs.Steps.{IsGivenOrNoMemory, Started, accepted_of, answer_of, closed_by, started_answer, step, table_or, taken, when_open}
 use Rattle.conn_core.specs.Tables.{IsSettings, Connection, Table, is_open, opening}
@@ -21,9 +19,9 @@ use Rattle.conn_core.specs.declared.entries.Entry.{Entry}
 use Rattle.conn_core.specs.declared.entries.Event.{Event}
 use Rattle.conn_core.specs.declared.kept.Kept.{Kept}
 use Rattle.conn_core.specs.declared.settings.Settings.{Settings}
+use Rattle.conn_core.proofs.HandedLemmas.{FramesFit, step_carried}
 use Rattle.conn_core.proofs.KeptLemmas.{kept_short}
-use Rattle.conn_core.proofs.PlaceLemmas.{admitted_turn}
-use Rattle.conn_core.proofs.SoundLemmas.{AreSound, RepliesFit, closed_sound, step_sound}
+use Rattle.conn_core.proofs.PlaceLemmas.{each_turn}
 use Rattle.conn_core.proofs.RefusalLemmas.{given_ok}
 use Rattle.conn_core.proofs.TurnLemmas.{open_where_worn}
 
@@ -57,12 +55,8 @@ pub turn_table : (c : Connection) (journal : List Entry) (n : ℕ) (u : Table) (
 turn_table c journal n u e taken =
     table_of-append c journal (turn_of c.settings n u e) ∙ turn_if_table c n (table_of c journal) u e (wears c.settings n u) refl taken
 
-settled_sound : (wire : WireMeaning) (b : Bool) (t : Table) → AreSound wire t → AreSound wire (settled_if b t)
-settled_sound wire true t sound = closed_sound wire reasons.Worn t sound
-settled_sound wire false t sound = sound
-
 -- a state goes on to the state after a taken event
-turned_state : {A E : Type 0} (c : Connection) (k m : Kept) (actor : ℕ) (event : Event) (w : Result (Table × A) E) (f : A → Answer) → RepliesFit c.wire → IsState c k → is_worn event ≡ false → IsAdmitted c.wire event → step c (lists_of k.table) actor event ≡ taken f w
+turned_state : {A E : Type 0} (c : Connection) (k m : Kept) (actor : ℕ) (event : Event) (w : Result (Table × A) E) (f : A → Answer) → FramesFit c.wire → IsState c k → is_worn event ≡ false → IsAdmitted c.wire event → step c (lists_of k.table) actor event ≡ taken f w
     → TurnsAs c.settings k.journal.items w (λ a. record { actor = actor; event = event; answer = f a }) m.journal.items (lists_of m.table) → IsKept c.settings m → IsState c m
 turned_state c k m actor event (Err e) f fits state plain admitted steps turns kept = absurd turns
 turned_state c k m actor event (Ok p) f fits state plain admitted steps turns kept =
@@ -70,14 +64,15 @@ turned_state c k m actor event (Ok p) f fits state plain admitted steps turns ke
     let old = k.journal.items in
     let n = length old + 1 in
     let done : step c (table_of c old) actor event ≡ Some (p.0, f p.1) = ap (λ t. step c t actor event) state.table ∙ steps in
-    let sound : AreSound c.wire p.0 = step_sound c (lists_of k.table) actor event p.0 (f p.1) fits admitted state.rows steps in
+    let room = state.room.room in
+    let carried : IsCarriedBy c event (f p.1) = step_carried c (vec_len k.journal) (capacities_of k) (lists_of k.table) actor event p.0 (f p.1) fits state.settings room admitted steps in
     record {
       settings = state.settings;
       room = kept;
       legal = subst (Legal c) (sym turns.journal) (turned old e p.0 state.legal plain done);
       table = ap (table_of c) turns.journal ∙ turn_table c old n p.0 e done ∙ sym turns.table;
-      rows = subst (AreSound c.wire) (sym turns.table) (settled_sound c.wire (wears c.settings n p.0) p.0 sound);
-      admitted = subst (AreAdmitted c.wire) (sym turns.journal) (admitted_turn c.wire old e (wears c.settings n p.0) state.admitted admitted);
+      admitted = subst (AreAdmitted c.wire) (sym turns.journal) (each_turn (λ (x : Entry). IsAdmitted c.wire x.event) old e (wears c.settings n p.0) state.admitted admitted tt);
+      carried = subst (AreCarried c) (sym turns.journal) (each_turn (λ (x : Entry). IsCarriedBy c x.event x.answer) old e (wears c.settings n p.0) state.carried carried tt);
     }
 
 stayed_state : (c : Connection) (k m : Kept) → IsState c k → Stays k.journal.items (lists_of k.table) m.journal.items (lists_of m.table) → IsKept c.settings m → IsState c m
@@ -87,8 +82,8 @@ stayed_state c k m state stays kept =
       room = kept;
       legal = subst (Legal c) (sym stays.journal) state.legal;
       table = ap (table_of c) stays.journal ∙ state.table ∙ sym stays.table;
-      rows = subst (AreSound c.wire) (sym stays.table) state.rows;
       admitted = subst (AreAdmitted c.wire) (sym stays.journal) state.admitted;
+      carried = subst (AreCarried c) (sym stays.journal) state.carried;
     }
 
 turns_as : {A E : Type 0} (s : Settings) (old : List Entry) (t : Table) (w : Result (Table × A) E) (entry : A → Entry) (a : A) (new : List Entry) (u : Table) → Ok a ≡ answer_of w → Turns s old (table_or t w) (entry a) new u → TurnsAs s old w entry new u
@@ -102,7 +97,7 @@ called_turns s old t w entry no_memory (Ok a) new u given turns = turns_as s old
 called_turns s old t w entry no_memory (Err e) new u given turns = tt
 
 -- a call leads to a state again
-pub leads : {A B D E : Type 0} (c : Connection) (k m : Kept) (actor : ℕ) (event : Event) (w : Result (Table × A) E) (f : A → Answer) (result : Result B D) → RepliesFit c.wire → IsState c k → is_worn event ≡ false → IsAdmitted c.wire event → step c (lists_of k.table) actor event ≡ taken f w
+pub leads : {A B D E : Type 0} (c : Connection) (k m : Kept) (actor : ℕ) (event : Event) (w : Result (Table × A) E) (f : A → Answer) (result : Result B D) → FramesFit c.wire → IsState c k → is_worn event ≡ false → IsAdmitted c.wire event → step c (lists_of k.table) actor event ≡ taken f w
     → OnOk result (TurnsAs c.settings k.journal.items w (λ a. record { actor = actor; event = event; answer = f a }) m.journal.items (lists_of m.table))
     → OnErr result (Stays k.journal.items (lists_of k.table) m.journal.items (lists_of m.table)) → IsKept c.settings m → IsState c m
 leads c k m actor event w f (Ok b) fits state plain admitted steps turns stays kept = turned_state c k m actor event w f fits state plain admitted steps turns kept
@@ -151,8 +146,8 @@ opened_state c k settings kept empty begins =
       room = kept;
       legal = subst (Legal c) (sym empty) opened;
       table = ap (table_of c) empty ∙ sym begins;
-      rows = subst (AreSound c.wire) (sym begins) (All-nil (IsSoundRow c.wire));
       admitted = subst (AreAdmitted c.wire) (sym empty) (λ k e stands. absurd (cc));
+      carried = subst (AreCarried c) (sym empty) (λ k e stands. absurd (cc));
     }
 
 refused_submit : (c : Connection) (journal : List Entry) (actor : ℕ) (event : Event) (w : Result (Table × Started) SubmitRefusal) (e : SubmitRefusal) (o : Option (Table × Answer)) → o ≡ taken started_answer w → Err e ≡ accepted_of (answer_of w) → grown c journal actor event o ≡ journal

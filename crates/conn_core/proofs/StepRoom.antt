@@ -7,12 +7,12 @@ use Rattle.std.proofs.lemmas.List.Sums.{sum_by-append}
 use Rattle.wire_frames.specs.declared.ends.Reason.{Reason}
 use Rattle.wire_frames.specs.declared.ends.Reason.TheVariants as reasons
 use Rattle.conn_core.specs.Journals.{settled_if, turn_if, turn_of, settled, wears}
-use Rattle.conn_core.specs.Rooms.{Capacities, IsRoomy, IsUnderWay, closes_of, entries_of, zero_reference}
+use Rattle.conn_core.specs.Rooms.{Capacities, IsRoomy, IsUnderWay, closes_of, entries_of, outside}
 use Rattle.conn_core.specs.Steps.{closed_by}
 use Rattle.conn_core.specs.Tables.{Table, is_open, is_queued, is_sent, lost_row, references_of}
 use Rattle.conn_core.specs.declared.entries.Entry.{Entry}
 use Rattle.conn_core.specs.declared.settings.Settings.{Settings}
-use Rattle.conn_core.proofs.RoomLemmas.{length-map_rows, lost_entries, lost_rows_entries, lost_references, lost_zeros, references_given_up, zero_references}
+use Rattle.conn_core.proofs.RoomLemmas.{length-map_rows, lost_entries, lost_rows_entries, lost_references, lost_outside, references_given_up, outside_references}
 use Rattle.conn_core.proofs.TurnLemmas.{closes_where_worn}
 
 pub closes_bound : (t : Table) → closes_of t ≤ 1
@@ -36,7 +36,7 @@ roomier s n room more t a b c h =
       leases_drawn = h.leases_drawn;
       requests_drawn = h.requests_drawn;
       frames_taken = h.frames_taken;
-      zeros = h.zeros;
+      in_range = h.in_range;
     }
 
 pub closed_room : (s : Settings) (n m : ℕ) (room : Capacities) (t : Table) (reason : Reason) → n ≤ m → m ≤ s.journal + 1 → m + sum_by entries_of t.rows ≤ room.journal → t.leases_drawn ≤ m → t.requests_drawn ≤ m → t.frames_taken ≤ m
@@ -47,9 +47,9 @@ closed_room s n m room t reason up end fits leases requests frames h =
     let none = lost_references reason t.rows in
     let given = references_given_up t.rows in
     let len = length-map_rows (lost_row reason) t.rows in
-    let queued = zero_references is_queued t.rows in
-    let sent = zero_references is_sent t.rows in
-    let stay = lost_zeros reason t.rows in
+    let queued = outside_references s.references is_queued t.rows in
+    let sent = outside_references s.references is_sent t.rows in
+    let stay = lost_outside s.references reason t.rows in
     record {
       journal = omega arith;
       references = omega (arith, length-append t.free (references_of is_queued t.rows), length-append t.quarantined (references_of is_sent t.rows));
@@ -62,7 +62,7 @@ closed_room s n m room t reason up end fits leases requests frames h =
       leases_drawn = leases;
       requests_drawn = requests;
       frames_taken = frames;
-      zeros = omega (arith, sum_by-append zero_reference t.free (references_of is_queued t.rows), sum_by-append zero_reference t.quarantined (references_of is_sent t.rows));
+      in_range = omega (arith, sum_by-append (outside s.references) t.free (references_of is_queued t.rows), sum_by-append (outside s.references) t.quarantined (references_of is_sent t.rows));
     }
 
 -- the limit is reached by the worn entry

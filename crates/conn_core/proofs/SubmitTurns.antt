@@ -5,7 +5,8 @@ use Rattle.std.proofs.lemmas.Bool.Decides.{nat_tests}
 use Rattle.wire_frames.specs.WireMeaning.{WireMeaning}
 use Rattle.wire_frames.specs.declared.asks.Ask.{Ask}
 use Rattle.conn_core.specs.Rooms.{CanTurn, Capacities, HasTurnRoom, IsRoomy, IsUnderWay}
-use Rattle.conn_core.specs.Steps.{Request, Started, accepted_of, answer_of, frame_at, next_reference, reference_to_try, prepared, table_or, with_reference}
+use Rattle.conn_core.specs.Requests.{frame_at, prepared, reference_to_try}
+use Rattle.conn_core.specs.Steps.{Request, Started, accepted_of, answer_of, next_reference, table_or, with_reference}
 use Rattle.conn_core.specs.Tables.{Table, holds}
 use Rattle.conn_core.specs.declared.answers.Accepted.{Accepted}
 use Rattle.conn_core.specs.declared.answers.SubmitRefusal.{SubmitRefusal}

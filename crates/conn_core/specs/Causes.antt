@@ -1,5 +1,5 @@
 -- Why calls are refused, by what they find.
-use Rattle.std.specs.Prelude.{◌≡◌, ◌⊎◌, ℕ, ◌<◌, ◌≤◌, false, Some, None, Err, count_by}
+use Rattle.std.specs.Prelude.{◌≡◌, ◌≢◌, ◌⊎◌, ℕ, ◌<◌, ◌≤◌, false, [], Some, None, Err, count_by, length}
 use Rattle.std.specs.List.{find}
 use Rattle.node_tree.specs.declared.faults.WriteWhy.{WriteWhy}
 use Rattle.wire_frames.specs.WireMeaning.{WireMeaning}
@@ -22,9 +22,13 @@ pub record IsTooLarge (wire : WireMeaning) (ask : Ask) (size limit : ℕ) : Type
   pub limit_is : limit ≡ wire.limit
   pub above : limit < size
 
+-- as many leases as may be are held, or others wait already
+abbrev pub MustWait : Settings → Table → Type 0
+MustWait s t = (s.share ≤ length t.held) ⊎ (t.waiting ≢ [])
+
 -- no row is queued, or at least as many rows as the window has are sent and live
-abbrev pub HasNothingToSend : Settings → Table → Type 0
-HasNothingToSend s t = (find is_queued t.rows ≡ None) ⊎ (s.window ≤ count_by is_sent t.rows)
+abbrev pub CannotSend : Settings → Table → Type 0
+CannotSend s t = (find is_queued t.rows ≡ None) ⊎ (s.window ≤ count_by is_sent t.rows)
 
 -- no row of the actor has the id
 abbrev pub HasNoRow : Table → ℕ → ℕ → Type 0

@@ -64,9 +64,17 @@ abbrev pub is_submit : Event → Bool
 is_submit (Submit lease ask timeout now) = true
 is_submit _ = false
 
--- how many entries of a journal are frames, and how many are requests
+-- a lease is asked for by the event
+abbrev pub is_ask : Event → Bool
+is_ask (AskLease now) = true
+is_ask _ = false
+
+-- how many entries of a journal are frames, how many are requests, and how many ask for a lease
 abbrev pub frames_in : List Entry → ℕ
 frames_in journal = count_by (λ e. is_frame e.event) journal
 
 abbrev pub requests_in : List Entry → ℕ
 requests_in journal = count_by (λ e. is_submit e.event) journal
+
+abbrev pub asks_in : List Entry → ℕ
+asks_in journal = count_by (λ e. is_ask e.event) journal

@@ -1,7 +1,8 @@
 -- Journals: what a connection went through, entry by entry.
-use Rattle.std.specs.Prelude.{◌≡◌, ℕ, ◌+◌, ◌≤◌, IsTrue, Bool, true, false, ◌&&◌, ◌==◌, List, [], ◌∷◌, ◌++◌, length, Option, Some, None}
+use Rattle.std.specs.Prelude.{◌≡◌, ℕ, ◌+◌, ◌≤◌, IsTrue, Bool, true, false, ◌&&◌, ◌==◌, List, [], ◌∷◌, ◌++◌, length, Option, Some, None, Ok}
 use Rattle.std.specs.List.{slice_get}
 use Rattle.wire_frames.specs.WireMeaning.{WireMeaning}
+use Rattle.wire_frames.specs.declared.asks.Ask.{Ask}
 use Rattle.wire_frames.specs.declared.ends.Reason.TheVariants as reasons
 use Rattle.conn_core.specs.Steps.{closed_by, step}
 use Rattle.conn_core.specs.Tables.{Connection, Table, is_open, opening}
@@ -73,6 +74,21 @@ abbrev pub IsAdmitted : WireMeaning → Event → Type 0
 IsAdmitted wire (Submit lease ask timeout now) = IsTrue (wire.admits ask) × (1 ≤ timeout) × (timeout ≤ timeout_limit)
 IsAdmitted wire _ = Unit {0}
 
--- so has each request of a journal
+-- each request of a journal is an admitted one
 abbrev pub AreAdmitted : WireMeaning → List Entry → Type 0
 AreAdmitted wire journal = (k : ℕ) (e : Entry) → slice_get journal k ≡ Some e → IsAdmitted wire e.event
+
+-- a request is carried by the frame of its ask under a reference of the connection, within the wire's limit
+pub record IsCarried (c : Connection) (ask : Ask) (reference : ℕ) (frame : List ℕ) : Type 0 where
+  pub in_range : (1 ≤ reference) × (reference ≤ c.settings.references)
+  pub framed : c.wire.frame_of ask reference ≡ Ok frame
+  pub within : length frame ≤ c.wire.limit
+
+-- so is a request that is accepted
+abbrev pub IsCarriedBy : Connection → Event → Answer → Type 0
+IsCarriedBy c (Submit lease ask timeout now) (answers.Accepted id reference frame) = IsCarried c ask reference frame
+IsCarriedBy c _ _ = Unit {0}
+
+-- so is each request of a journal
+abbrev pub AreCarried : Connection → List Entry → Type 0
+AreCarried c journal = (k : ℕ) (e : Entry) → slice_get journal k ≡ Some e → IsCarriedBy c e.event e.answer

@@ -1,8 +1,11 @@
+pub mod AdmittedRows
 pub mod BareWires
 pub mod Causes
 pub mod Ends
 pub mod Entries
+pub mod EntryLaw
 pub mod Finds
+pub mod HandedOut
 pub mod HistoryLaw
 pub mod Journals
 pub mod KeptStates
@@ -10,7 +13,7 @@ pub mod LeaseLists
 pub mod Places
 pub mod Requests
 pub mod Rooms
-pub mod SoundRows
+pub mod RowLaw
 pub mod States
 pub mod Steps
 pub mod TableLaw

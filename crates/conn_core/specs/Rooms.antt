@@ -1,5 +1,5 @@
 -- Room: what the rows, leases and references that stand can still cause never wants memory.
-use Rattle.std.specs.Prelude.{◌≡◌, ℕ, ◌+◌, ◌*◌, ◌≤◌, ◌<◌, ◌==◌, ◌++◌, true, false, if◌then◌else◌, List, length, Result, Ok, Err, vec_len, sum_by}
+use Rattle.std.specs.Prelude.{◌≡◌, ℕ, ◌+◌, ◌*◌, ◌≤◌, ◌<◌, ◌&&◌, nat_le, ◌++◌, true, false, if◌then◌else◌, List, length, Result, Ok, Err, vec_len, sum_by}
 use Rattle.std.specs.Vec.{vec_capacity}
 use Rattle.std.specs.VecDeque.{deque_capacity, deque_len}
 use Rattle.conn_core.specs.Journals.{settled, turn_of}
@@ -87,12 +87,12 @@ pub record Capacities : Type 0 where
 abbrev pub capacities_of : Kept → Capacities
 capacities_of k = record { journal = vec_capacity k.journal; free = deque_capacity k.table.free; quarantined = vec_capacity k.table.quarantined }
 
--- a reference is a number above 0
-abbrev pub zero_reference : ℕ → ℕ
-zero_reference reference = if reference == 0 then 1 else 0
+-- references are the numbers from 1 to so many; a number outside counts 1, a reference 0
+abbrev pub outside : ℕ → ℕ → ℕ
+outside references number = if nat_le 1 number && nat_le number references then 0 else 1
 
-abbrev pub zero_row : Row → ℕ
-zero_row row = zero_reference row.reference
+abbrev pub row_outside : ℕ → Row → ℕ
+row_outside references row = outside references row.reference
 
 -- a table with so many entries behind it, in lists of these capacities
 pub record IsRoomy (s : Settings) (entries : ℕ) (room : Capacities) (t : Table) : Type 0 where
@@ -107,7 +107,7 @@ pub record IsRoomy (s : Settings) (entries : ℕ) (room : Capacities) (t : Table
   pub leases_drawn : t.leases_drawn ≤ entries
   pub requests_drawn : t.requests_drawn ≤ entries
   pub frames_taken : t.frames_taken ≤ entries
-  pub zeros : sum_by zero_reference t.free + sum_by zero_reference t.quarantined + sum_by zero_row t.rows ≡ 0
+  pub in_range : sum_by (outside s.references) t.free + sum_by (outside s.references) t.quarantined + sum_by (row_outside s.references) t.rows ≡ 0
 
 -- an open table has fewer entries behind it than the journal's limit
 abbrev pub IsUnderWay : Settings → ℕ → Table → Type 0

@@ -97,37 +97,22 @@ abbrev pub next_reference : List ℕ → ℕ
 next_reference [] = 1
 next_reference (reference ∷ rest) = reference
 
+-- the first free reference is drawn
 abbrev pub with_reference : Table → Request → List ℕ → List ℕ → Result (Table × Started) SubmitRefusal
 with_reference t q frame [] = Err submit_refusals.NoReference
 with_reference t q frame (reference ∷ rest) = Ok (started t q frame reference rest)
 
--- the reference to try, where the caller may hand in a request
-abbrev pub reference_to_try : Table → ℕ → ℕ → Result ℕ SubmitRefusal
-reference_to_try t actor lease =
-    when_open submit_refusals.Closed t.closed (
-    if holds actor lease t
-    then (if nat_lt (length t.rows) rows_limit then Ok (next_reference t.free) else Err submit_refusals.TableFull)
-    else Err submit_refusals.NoLease)
-
--- the frame that carries the ask, where it can be written and is within the limit
-abbrev pub frame_for : WireMeaning → Ask → Result (List ℕ) Refused → Result (List ℕ) SubmitRefusal
-frame_for wire ask (Err refused) = Err (submit_refusals.Unwritable refused.entry refused.why)
-frame_for wire ask (Ok frame) = if nat_lt wire.limit (wire.size ask) then Err (submit_refusals.TooLarge (wire.size ask) wire.limit) else Ok frame
-
-abbrev pub frame_at : WireMeaning → Ask → Result ℕ SubmitRefusal → Result (List ℕ) SubmitRefusal
-frame_at wire ask (Err refusal) = Err refusal
-frame_at wire ask (Ok reference) = frame_for wire ask (wire.frame_of ask reference)
-
-abbrev pub prepared : WireMeaning → Table → Request → Result (List ℕ) SubmitRefusal
-prepared wire t q = frame_at wire q.ask (reference_to_try t q.actor q.lease)
-
--- only then is the reference drawn, if there is one
-abbrev pub with_frame : Table → Request → Result (List ℕ) SubmitRefusal → Result (Table × Started) SubmitRefusal
-with_frame t q (Err refusal) = Err refusal
-with_frame t q (Ok frame) = with_reference t q frame t.free
+-- the frame that carries the ask, where it can be written and the ask's size is within the limit; only then is the reference drawn
+abbrev pub with_frame : WireMeaning → Table → Request → Result (List ℕ) Refused → Result (Table × Started) SubmitRefusal
+with_frame wire t q (Err refused) = Err (submit_refusals.Unwritable refused.entry refused.why)
+with_frame wire t q (Ok frame) = if nat_lt wire.limit (wire.size q.ask) then Err (submit_refusals.TooLarge (wire.size q.ask) wire.limit) else with_reference t q frame t.free
 
 abbrev pub submit : WireMeaning → Table → Request → Result (Table × Started) SubmitRefusal
-submit wire t q = with_frame t q (prepared wire t q)
+submit wire t q =
+    when_open submit_refusals.Closed t.closed (
+    if holds q.actor q.lease t
+    then (if nat_lt (length t.rows) rows_limit then with_frame wire t q (wire.frame_of q.ask (next_reference t.free)) else Err submit_refusals.TableFull)
+    else Err submit_refusals.NoLease)
 
 -- TakeSend: the queued row with the least id is sent, unless `window` rows are sent and live
 abbrev pub with_queued_frame : Table → Row → Phase → Result (Table × Sending) SendRefusal

@@ -1,11 +1,12 @@
--- What the table after a journal and the places of the journal say alike: the clock, the leases, the close, and how many
--- frames and requests there were.
+-- What the table after a journal and the places of the journal say alike: the clock, the leases, the close, the rows, and how
+-- many frames, requests and asked leases there were.
 use Rattle.std.specs.Prelude.{◌≡◌, ◌↔◌, ℕ, List, Some, None}
 use Rattle.std.specs.List.{slice_get}
 use Rattle.wire_frames.specs.declared.ends.Reason.{Reason}
-use Rattle.conn_core.specs.Entries.{clock_of, closing_reason, frames_in, requests_in}
+use Rattle.conn_core.specs.Entries.{asks_in, clock_of, closing_reason, frames_in, requests_in}
 use Rattle.conn_core.specs.Journals.{table_of}
 use Rattle.conn_core.specs.LeaseLists.{LeaseLists, leases_from, no_leases}
+use Rattle.conn_core.specs.RowLaw.{RowLaw}
 use Rattle.conn_core.specs.Tables.{Connection, Table}
 use Rattle.conn_core.specs.declared.entries.Entry.{Entry}
 
@@ -28,7 +29,10 @@ pub record TableLaw (c : Connection) (journal : List Entry) : Type 0 where
   pub leases : leases_in (table_of c journal) ≡ leases_from c.settings no_leases journal
   -- It is closed exactly where an entry closes, with that entry's reason.
   pub closed : (reason : Reason) → ((table_of c journal).closed ≡ Some reason) ↔ ClosesWith journal reason
-  -- As many frames were taken as there are entries of frames, so a frame's number is one among them.
+  -- As many frames were taken as there are entries of frames, as many requests accepted as there are entries of requests, and
+  -- as many leases numbered as there are entries that ask for one.
   pub frames : (table_of c journal).frames_taken ≡ frames_in journal
-  -- As many requests were accepted as there are entries of requests.
   pub requests : (table_of c journal).requests_drawn ≡ requests_in journal
+  pub asks : (table_of c journal).leases_drawn ≡ asks_in journal
+  -- Its rows are requests that the journal accepted, with what became of them.
+  pub rows : RowLaw c journal (table_of c journal)

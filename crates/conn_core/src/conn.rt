@@ -1,9 +1,10 @@
-ghost use Rattle.std.specs.Prelude.{◌≡◌, ◌+◌, ◌<◌, ◌≤◌, ◌^◌, [], false, ℕ, length, ◌⊎◌, Err, IfOk, IfSome, IsNone, OnErr, IsTrue};
+ghost use Rattle.std.specs.Prelude.{◌≡◌, ◌≢◌, ◌+◌, ◌<◌, ◌≤◌, ◌^◌, [], false, ℕ, length, ◌⊎◌, Ok, Err, IfOk, IfSome, IsErr, IsNone, OnErr, IsTrue};
 ghost use Rattle.node_tree.specs.declared.faults.WriteWhy.{WriteWhy};
-ghost use Rattle.wire_frames.specs.WireMeaning.{HasValuesOnlyIfDone};
 ghost use Rattle.wire_frames.specs.declared.ends.EndKind.{EndKind};
-ghost use Rattle.conn_core.specs.Causes.{HasEndedRow, HasLiveRow, HasNoRow, HasNothingToSend, IsTooLarge, IsUnwritable};
-ghost use Rattle.conn_core.specs.Journals.{AreAdmitted, Legal};
+ghost use Rattle.conn_core.specs.Causes.{CannotSend, HasEndedRow, HasLiveRow, HasNoRow, IsTooLarge, IsUnwritable, MustWait};
+ghost use Rattle.conn_core.specs.EntryLaw.{EntryLaw};
+ghost use Rattle.conn_core.specs.HandedOut.{IsCarriedSending, IsShapedOutcome};
+ghost use Rattle.conn_core.specs.Journals.{AreAdmitted, AreCarried, Legal};
 ghost use Rattle.conn_core.specs.Tables.{IsSettings, holds, rows_limit, waiters_limit};
 ghost use Rattle.conn_core.specs.Steps.{IsGivenOrNoMemory, accepted_of, answer_of, apply_frame, ask_lease, cancel, collect, submit, take_send};
 ghost use Rattle.conn_core.specs.TableLaw.{ClosesWith, NoneCloses, TableLaw};
@@ -66,6 +67,7 @@ impl<W: Wire> ConnState<W> {
         ensures unchanged { OnErr result (self.new.journal ≡ self.old.journal) }
         ensures closed { (reason : Reason) → result ≡ Err (AskRefusal.Closed reason) → ClosesWith self.old.journal reason }
         ensures once_closed { (reason : Reason) → ClosesWith self.old.journal reason → IsGivenOrNoMemory AskRefusal.NoMemory result (Err (AskRefusal.Closed reason)) }
+        ensures waiting { (lease place : ℕ) → result ≡ Ok (LeaseAnswer.Waiting lease place) → MustWait self.old.key.settings (table_in W.meaning self.old) × (place ≡ length (table_in W.meaning self.old).waiting) }
         ensures queue_full { result ≡ Err AskRefusal.QueueFull → length (table_in W.meaning self.old).waiting ≡ waiters_limit }
         ensures goes_on { GoesOn W.meaning actor self.old self.new }
     {
@@ -112,7 +114,8 @@ impl<W: Wire> ConnState<W> {
         ensures unchanged { OnErr result (self.new.journal ≡ self.old.journal) }
         ensures closed { (reason : Reason) → result ≡ Err (SendRefusal.Closed reason) → ClosesWith self.old.journal reason }
         ensures once_closed { (reason : Reason) → ClosesWith self.old.journal reason → result ≡ Err (SendRefusal.Closed reason) }
-        ensures nothing { result ≡ Err SendRefusal.Nothing → HasNothingToSend self.old.key.settings (table_in W.meaning self.old) }
+        ensures nothing { result ≡ Err SendRefusal.Nothing → CannotSend self.old.key.settings (table_in W.meaning self.old) }
+        ensures sending { IfOk result (IsCarriedSending (connection_of W.meaning self.old.key) self.old.journal) }
         ensures goes_on { GoesOn W.meaning actor self.old self.new }
     {
         calls::take_send(&mut self.kept, &self.settings, actor)
@@ -130,11 +133,12 @@ impl<W: Wire> ConnState<W> {
         frames::apply_frame(&mut self.kept, &self.wire, &self.settings, actor, frame)
     }
 
-    /// Ends a live request of the actor, unanswered. It never fails for memory.
+    /// Ends a live request of the actor, unanswered; on a closed connection none is live. It never fails for memory.
     pub fn cancel(&mut self, actor: u32, id: u64) -> Result<(), CancelRefusal>
         ensures answer { result ≡ answer_of (cancel (table_in W.meaning self.old) actor id) }
         ensures state { self.new ≡ state_after W.meaning self.old actor (events.Cancel id) }
         ensures unchanged { OnErr result (self.new.journal ≡ self.old.journal) }
+        ensures once_closed { (reason : Reason) → ClosesWith self.old.journal reason → IsErr result }
         ensures no_request { result ≡ Err CancelRefusal.NoRequest → HasNoRow (table_in W.meaning self.old) actor id }
         ensures already_ended { (kind : EndKind) → result ≡ Err (CancelRefusal.AlreadyEnded kind) → HasEndedRow (table_in W.meaning self.old) actor id kind }
         ensures goes_on { GoesOn W.meaning actor self.old self.new }
@@ -147,7 +151,8 @@ impl<W: Wire> ConnState<W> {
         ensures answer { result ≡ answer_of (collect (table_in W.meaning self.old) actor id) }
         ensures state { self.new ≡ state_after W.meaning self.old actor (events.Collect id) }
         ensures unchanged { OnErr result (self.new.journal ≡ self.old.journal) }
-        ensures shaped { IfOk result HasValuesOnlyIfDone }
+        ensures collected { IfOk result (IsShapedOutcome (connection_of W.meaning self.old.key) self.old.journal actor id) }
+        ensures once_closed { (reason : Reason) → ClosesWith self.old.journal reason → result ≢ Err TakeRefusal.Pending }
         ensures no_request { result ≡ Err TakeRefusal.NoRequest → HasNoRow (table_in W.meaning self.old) actor id }
         ensures pending { result ≡ Err TakeRefusal.Pending → HasLiveRow (table_in W.meaning self.old) actor id }
         ensures goes_on { GoesOn W.meaning actor self.old self.new }
@@ -171,14 +176,16 @@ impl<W: Wire> ConnState<W> {
         self.wire.admits(ask)
     }
 
-    /// All that happened, in order. Past its limit it has at most the close and a collection for each row that was kept then.
+    /// All that happened, in order: below its limit while nothing has closed the connection, and at most 1,025 entries past it.
     pub fn journal(&self) -> &[Entry]
         ensures journal { result.now ≡ self.now.journal }
         ensures legal { Legal (connection_of W.meaning self.now.key) self.now.journal }
         ensures by_places { TableLaw (connection_of W.meaning self.now.key) self.now.journal }
         ensures within { length self.now.journal ≤ self.now.key.settings.journal + 1025 }
         ensures under_limit { NoneCloses self.now.journal → length self.now.journal < self.now.key.settings.journal }
+        ensures by_entries { EntryLaw (connection_of W.meaning self.now.key) self.now.journal }
         ensures admitted { AreAdmitted (W.meaning self.now.key.wire) self.now.journal }
+        ensures carried { AreCarried (connection_of W.meaning self.now.key) self.now.journal }
         ensures short { length self.now.journal < 2 ^ 63 }
     {
         self.kept.journal.as_slice()
@@ -191,7 +198,9 @@ impl<W: Wire> ConnState<W> {
         ensures by_places { TableLaw (connection_of W.meaning self.key) self.journal }
         ensures within { length self.journal ≤ self.key.settings.journal + 1025 }
         ensures under_limit { NoneCloses self.journal → length self.journal < self.key.settings.journal }
+        ensures by_entries { EntryLaw (connection_of W.meaning self.key) self.journal }
         ensures admitted { AreAdmitted (W.meaning self.key.wire) self.journal }
+        ensures carried { AreCarried (connection_of W.meaning self.key) self.journal }
         ensures short { length self.journal < 2 ^ 63 }
     {
         let ConnState { kept, .. } = self;

@@ -1,7 +1,7 @@
 ghost use Rattle.std.specs.Prelude.{◌≡◌, All, ◌<◌, OnOk, OnErr};
+ghost use Rattle.conn_core.specs.AdmittedRows.{IsAdmittedRow};
 ghost use Rattle.conn_core.specs.Tables.{IsSettings};
 ghost use Rattle.conn_core.specs.Rooms.{IsKept, Stays, TurnsAs, lists_of};
-ghost use Rattle.conn_core.specs.SoundRows.{IsSoundRow};
 ghost use Rattle.conn_core.specs.Steps.{IsGivenOrNoMemory, answer_of, apply_frame, frame_answer};
 ghost use Rattle.conn_core.specs.declared.entries.Event.TheVariants as events;
 
@@ -34,7 +34,7 @@ pub(crate) fn apply_frame<W: Wire>(
 ) -> Result<FrameAnswer, FrameRefusal>
     requires settings { IsSettings settings.now }
     requires kept { IsKept settings.now kept.old }
-    requires sound { All (IsSoundRow (W.meaning wire.now)) kept.old.table.rows.items }
+    requires admitted { All (IsAdmittedRow (W.meaning wire.now)) kept.old.table.rows.items }
     ensures answer { IsGivenOrNoMemory FrameRefusal.NoMemory result (answer_of (apply_frame (W.meaning wire.now) (lists_of kept.old.table) frame)) }
     ensures turned { OnOk result (TurnsAs settings.now kept.old.journal.items (apply_frame (W.meaning wire.now) (lists_of kept.old.table) frame) (λ answer. record { actor = actor; event = events.Frame frame; answer = frame_answer answer }) kept.new.journal.items (lists_of kept.new.table)) }
     ensures stays { OnErr result (Stays kept.old.journal.items (lists_of kept.old.table) kept.new.journal.items (lists_of kept.new.table)) }

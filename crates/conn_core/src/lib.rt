@@ -34,6 +34,8 @@ pub use answers::{
 };
 pub use conn::ConnState;
 pub use entries::{Answer, Entry, EntryList, Event};
-pub use laws::{open_by_steps, table_by_places, table_by_turns};
+pub use laws::{
+    entries_by_places, handed_out_by_places, open_by_steps, table_by_places, table_by_turns,
+};
 pub use rows::{Lease, Phase, Row};
 pub use settings::Settings;

@@ -1,8 +1,8 @@
 ghost use Rattle.std.specs.Prelude.{◌≡◌, All, ◌+◌, ◌<◌, ◌≤◌, ◌^◌, ◌-◌, Some, IfOk, OnOk, OnErr, vec_len, Ok, sum_by};
 ghost use Rattle.std.specs.List.{find};
 ghost use Rattle.std.specs.VecDeque.{deque_len, deque_capacity};
+ghost use Rattle.conn_core.specs.AdmittedRows.{IsAdmittedRow};
 ghost use Rattle.conn_core.specs.Rooms.{HasEndRoom, KeepsRoom, lists_of, references_kept, room_of};
-ghost use Rattle.conn_core.specs.SoundRows.{IsSoundRow};
 ghost use Rattle.conn_core.specs.Steps.{IsGivenOrNoMemory, answer_of, apply_frame, arrived, ended_answer, refused_frame, table_or, without_row};
 ghost use Rattle.conn_core.specs.Tables.{ended_row, is_reference, is_sent_with};
 
@@ -49,7 +49,7 @@ fn arrive<W: Wire>(
     reply: &Reply<'_>,
 ) -> Result<FrameAnswer, AllocError>
     requires free { deque_len table.old.free + vec_len table.old.quarantined + sum_by references_kept table.old.rows.items ≤ deque_capacity table.old.free }
-    requires sound { All (IsSoundRow (W.meaning wire.now)) table.old.rows.items }
+    requires admitted { All (IsAdmittedRow (W.meaning wire.now)) table.old.rows.items }
     requires read { (W.meaning wire.now).reading_of reply.now.frame.now ≡ Ok reply.now.reading }
     ensures answer { IfOk result (λ answer. answer ≡ (arrived (W.meaning wire.now) (lists_of table.old) reply.now.reference reply.now.reading (find (is_sent_with reply.now.reference) table.old.rows.items)).1) }
     ensures table { OnOk result (lists_of table.new ≡ (arrived (W.meaning wire.now) (lists_of table.old) reply.now.reference reply.now.reading (find (is_sent_with reply.now.reference) table.old.rows.items)).0) }
@@ -90,7 +90,7 @@ pub(crate) fn receive<W: Wire>(
 ) -> Result<FrameAnswer, FrameRefusal>
     requires free { deque_len table.old.free + vec_len table.old.quarantined + sum_by references_kept table.old.rows.items ≤ deque_capacity table.old.free }
     requires ending { HasEndRoom (room_of table.old) table.old.rows.items }
-    requires sound { All (IsSoundRow (W.meaning wire.now)) table.old.rows.items }
+    requires admitted { All (IsAdmittedRow (W.meaning wire.now)) table.old.rows.items }
     requires frames { table.old.frames_taken < 2 ^ 64 - 1 }
     ensures answer { IsGivenOrNoMemory FrameRefusal.NoMemory result (answer_of (apply_frame (W.meaning wire.now) (lists_of table.old) bytes.now)) }
     ensures table { OnOk result (lists_of table.new ≡ table_or (lists_of table.old) (apply_frame (W.meaning wire.now) (lists_of table.old) bytes.now)) }

@@ -1,9 +1,9 @@
 ghost use Rattle.std.specs.Prelude.{◌≡◌, ◌<◌, IfOk, IfErr, OnOk, OnErr, IsTrue, Ok, Err, vec_len};
 ghost use Rattle.std.specs.Vec.{vec_capacity};
-ghost use Rattle.conn_core.specs.Requests.{IsDraftOf, request_of};
+ghost use Rattle.conn_core.specs.Requests.{IsDraftOf, handed_in, prepared, request_of};
 ghost use Rattle.conn_core.specs.Tables.{IsSettings};
 ghost use Rattle.conn_core.specs.Rooms.{HasTurnRoom, IsKept, Stays, TurnsAs, capacities_of, lists_of};
-ghost use Rattle.conn_core.specs.Steps.{IsGivenOrNoMemory, accepted_of, answer_of, next_reference, prepared, started_answer, submit};
+ghost use Rattle.conn_core.specs.Steps.{IsGivenOrNoMemory, accepted_of, answer_of, next_reference, started_answer};
 ghost use Rattle.conn_core.specs.declared.entries.Event.TheVariants as events;
 
 use crate::answers::{Accepted, SubmitRefusal};
@@ -64,8 +64,8 @@ pub(crate) fn submit<W: Wire>(
     requires settings { IsSettings settings.now }
     requires kept { IsKept settings.now kept.old }
     requires admitted { IsTrue ((W.meaning wire.now).admits request.ask) }
-    ensures answer { IsGivenOrNoMemory SubmitRefusal.NoMemory result (accepted_of (answer_of (submit (W.meaning wire.now) (lists_of kept.old.table) (request_of request)))) }
-    ensures turned { OnOk result (TurnsAs settings.now kept.old.journal.items (submit (W.meaning wire.now) (lists_of kept.old.table) (request_of request)) (λ started. record { actor = request.actor; event = events.Submit request.lease request.ask request.timeout_ms request.moment; answer = started_answer started }) kept.new.journal.items (lists_of kept.new.table)) }
+    ensures answer { IsGivenOrNoMemory SubmitRefusal.NoMemory result (accepted_of (answer_of (handed_in (W.meaning wire.now) (lists_of kept.old.table) (request_of request)))) }
+    ensures turned { OnOk result (TurnsAs settings.now kept.old.journal.items (handed_in (W.meaning wire.now) (lists_of kept.old.table) (request_of request)) (λ started. record { actor = request.actor; event = events.Submit request.lease request.ask request.timeout_ms request.moment; answer = started_answer started }) kept.new.journal.items (lists_of kept.new.table)) }
     ensures stays { OnErr result (Stays kept.old.journal.items (lists_of kept.old.table) kept.new.journal.items (lists_of kept.new.table)) }
     ensures kept { IsKept settings.now kept.new }
 {

@@ -1,5 +1,5 @@
 /// How a connection is shared. `references` are 1 to this many, `window` requests may be sent and
-/// unanswered, `share` leases may be held, the journal has at most `journal` entries until it is
+/// live, `share` leases may be held, the journal has at most `journal` entries until it is
 /// closed, a lease lasts `lease_ms` and a caller waits `wait_ms` for one, in milliseconds.
 #[derive(Clone, Copy, Debug, PartialEq, Eq)]
 pub struct Settings {

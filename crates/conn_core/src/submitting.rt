@@ -1,8 +1,8 @@
 ghost use Rattle.std.specs.Prelude.{◌≡◌, ◌<◌, ◌^◌, ◌-◌, IfErr, OnOk, vec_len, Ok, Err};
 ghost use Rattle.std.specs.Vec.{vec_capacity};
-ghost use Rattle.conn_core.specs.Requests.{request_of};
+ghost use Rattle.conn_core.specs.Requests.{reference_to_try, request_of};
 ghost use Rattle.conn_core.specs.Rooms.{KeepsRoom, lists_of, room_of};
-ghost use Rattle.conn_core.specs.Steps.{accepted_of, answer_of, next_reference, reference_to_try, table_or, with_reference};
+ghost use Rattle.conn_core.specs.Steps.{accepted_of, answer_of, next_reference, table_or, with_reference};
 
 use crate::answers::{Accepted, SubmitRefusal};
 use crate::finding::holds;

@@ -114,7 +114,7 @@ impl Wire for BareWire {
 
     ghost replies = { λ wire ask reading admitted. refl };
 
-    ghost sized = { λ wire ask reference frame admitted is. bare_sized _ _ (asked_payload ask) frame is };
+    ghost sized = { λ wire ask reference frame above below admitted is. bare_sized _ _ (asked_payload ask) frame is };
 }
 
 const UNWRITABLE: SubmitRefusal = SubmitRefusal::Unwritable {

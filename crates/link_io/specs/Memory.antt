@@ -1,5 +1,6 @@
 -- What a stream or a shelf of files in memory is: what it gives and takes, and which of its calls fail.
-use Rattle.std.specs.Prelude.{ℕ, ◌-◌, ◌%◌, ◌==◌, ◌≡◌, ◌⊎◌, if◌then◌else◌, List, ◌++◌, length, take, drop, min, sum, find, slice_index, slice_set, Contains, Option, None}
+use Rattle.std.specs.Prelude.{ℕ, ◌-◌, ◌%◌, ◌==◌, ◌≡◌, ◌⊎◌, if◌then◌else◌, List, ◌++◌, length, take, drop, min, sum, find, slice_index, slice_set, Contains, Option, None, Some, is_none, IsTrue}
+use Rattle.std.proofs.Common.{refl}
 use Rattle.std.specs.Option.{option_map}
 use Rattle.std.specs.Str.{bytes_eq}
 use Rattle.link_io.specs.Counts.{next}
@@ -72,6 +73,11 @@ after_failed_call sink = record sink { calls = after_call sink.calls; faults = n
 -- the bytes of the first file of a name, among pairs of a name and bytes
 abbrev pub file_of : List (List ℕ × List ℕ) → List ℕ → Option (List ℕ)
 file_of files name = option_map (λ file. file.1) (find (λ file. bytes_eq file.0 name) files)
+
+-- where a shelf has no file, it shows none
+pub none_where_lacking : (file : Option (List ℕ)) → IsTrue (is_none file) → file ≡ None
+none_where_lacking None lacks = refl
+none_where_lacking (Some bytes) lacks = absurd (cc)
 
 -- a shelf: its files, the greatest piece that a read gives, its calls, and 256 counts of faults
 pub record ShelfState : Type 0 where

@@ -87,6 +87,8 @@ impl<R: Files> Shelf for FileShelf<R> {
 
     ghost share_a_count = { λ _ _ _ _. refl };
 
+    ghost lacks_no_file = { λ _ _ _. refl };
+
     fn read_at(&mut self, name: &str, from: u64, to: &mut [u8]) -> Result<usize, Failed> {
         match self.try_read(name, from, to) {
             Ok(count) => Ok(count),

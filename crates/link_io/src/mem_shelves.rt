@@ -78,6 +78,7 @@ impl MemShelf {
 impl Shelf for MemShelf {
     ghost use Rattle.std.specs.Prelude.{ℕ, is_none};
     ghost use Rattle.std.proofs.Common.{ap};
+    ghost use Rattle.link_io.specs.Memory.{none_where_lacking};
 
     ghost seen = { λ shelf. record {
       file = file_of shelf.files;
@@ -88,6 +89,8 @@ impl Shelf for MemShelf {
     ghost counts_with = { λ one other. place_of one ≡ place_of other };
 
     ghost share_a_count = { λ shelf one other together. ap (λ (place : ℕ). slice_index shelf.counts place) together };
+
+    ghost lacks_no_file = { λ shelf name lacks. none_where_lacking (file_of shelf.files name) lacks };
 
     fn read_at(&mut self, name: &str, from: u64, to: &mut [u8]) -> Result<usize, Failed>
         requires { 0 < length to.old }

@@ -1,4 +1,4 @@
-ghost use Rattle.std.specs.Prelude.{◌≡◌, ◌<◌, ◌≤◌, ℕ, List, length, take, drop, Ok, IfOk, OnOk, OnErr, IfSome, IsErr, IsTrue};
+ghost use Rattle.std.specs.Prelude.{◌≡◌, ◌<◌, ◌≤◌, ℕ, List, length, take, drop, None, Ok, IfOk, OnOk, OnErr, IfSome, IsErr, IsTrue};
 ghost use Rattle.link_io.specs.Counts.{Rose};
 ghost use Rattle.link_io.specs.Streams.{SourceSeen, SinkSeen, ShelfSeen, LeavesFiles, after_giving, AreNext, IsAtEnd, after_taking};
 
@@ -63,6 +63,9 @@ pub trait Shelf {
 
     /// Names that are counted together share one count.
     ghost share_a_count: { (shelf : Self) (one other : List ℕ) → counts_with one other → (seen shelf).faults one ≡ (seen shelf).faults other };
+
+    /// Where it tells that there is no file of a name, it tells no bytes for that name.
+    ghost lacks_no_file: { (shelf : Self) (name : List ℕ) → IsTrue ((seen shelf).lacks name) → (seen shelf).file name ≡ None };
 
     /// Takes the bytes of the named file from the byte `from` on to the front of `to`, and answers how many; 0 comes only at
     /// or past the file's end. Behind these bytes, and after a fault, `to` may hold anything.

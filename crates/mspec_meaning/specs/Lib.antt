@@ -1,4 +1,5 @@
 pub mod Faults
 pub mod Plain
 pub mod Reads
+pub mod Shape
 pub mod Stream

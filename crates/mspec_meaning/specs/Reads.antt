@@ -1,5 +1,6 @@
 -- What bits mean by a description: a clause for each kind of field, over the syntax tree and all bits of the
--- value. So far the simple fields of unsigned numbers have theirs.
+-- value. So far the simple fields of unsigned numbers have theirs. These give numbers also for widths outside 1 to 64, and for a
+-- little order of no whole bytes: no description has such fields, and the calls ask for `CanRead`, which leaves them out.
 use Rattle.std.specs.Prelude.{ℕ, ℤ, pos, ◌≡◌, ◌+◌, ◌%◌, ◌==◌, ◌⊎◌, Bool, List, [], ◌∷◌, length, take, drop, map, Option, Some, None, Result, Ok, Err, nat_lt, if◌then◌else◌, slice_get}
 use Rattle.std.specs.List.{flat_map}
 use Rattle.node_tree.specs.Bits.{big_number, little_number}

@@ -4,6 +4,7 @@ ghost use Rattle.node_tree.specs.declared.faults.ReadWhy.{ReadWhy};
 ghost use Rattle.mspec_tree.specs.declared.defs.Description.{Description};
 ghost use Rattle.mspec_meaning.specs.Plain.{CanRead};
 ghost use Rattle.mspec_meaning.specs.Reads.{Reads, Fault, Bad};
+ghost use Rattle.mspec_meaning.specs.Shape.{HasNumbers};
 ghost use Rattle.mspec_meaning.specs.Stream.{Stream, Ending};
 
 /// Bits have at most one outcome by a description.
@@ -16,6 +17,12 @@ pub fn one_reading()
 pub fn some_reading()
     ensures { (d : Description) (def : ℕ) (args : List ℤ) (bits : List Bool)
         → CanRead d def args → (outcome : Result Reading Fault) × Reads d def args bits outcome }
+{}
+
+/// A reading by a description that can be read is a group of unsigned numbers, one for each field of its type.
+pub fn a_number_for_each_field()
+    ensures { (d : Description) (def : ℕ) (args : List ℤ) (bits : List Bool) (reading : Reading)
+        → CanRead d def args → Reads d def args bits (Ok reading) → HasNumbers d def reading.node }
 {}
 
 /// More bits behind a value leave it as it is, and a refusal too; only a reading that ended too early may change.

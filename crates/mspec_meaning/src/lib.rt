@@ -8,6 +8,8 @@ mod reading;
 #[cfg(test)]
 mod tests;
 
-pub use laws::{more_bits, one_reading, one_stream, some_reading, some_stream};
+pub use laws::{
+    a_number_for_each_field, more_bits, one_reading, one_stream, some_reading, some_stream,
+};
 pub use readable::can_read;
 pub use reading::read_plain;

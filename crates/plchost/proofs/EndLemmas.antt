@@ -42,10 +42,10 @@ concluded words counts_with files files' input input' o0 o1 o2 t0 t1 out (Err No
       said = λ five eight. absurd (eight (done five).0);
       no_memory = λ eight.
           let end = done (λ five. absurd (omega (arith, five, eight))) in
-          (s.0, s.1, s.2, s.3, last_said_too o0.held o1.held o2.held t0 t1 out s.1 last empty same s.4 end.1);
+          (s.0, s.1, s.2, s.3, last_said_too o0.held o1.held o2.held t0 t1 out s.1 last empty same s.4 end.1, s.5);
       write_fault = λ five.
           let put = front_said o0.held o1.held o2.held t0 t1 out s.1 last empty same s.4 (cut five (λ e. absurd cc)).0 in
-          (s.0, s.1 ++ last, s.2, inr (s.1, s.3, refl), put);
+          (s.0, s.1 ++ last, s.2, inr (s.1, s.3, s.5, refl), put);
       out_failed = λ five. subst (λ (count : ℕ). Rose count o2.faults) well (cut five (λ e. absurd cc)).1;
       out_well = λ five. (done five).2 ∙ well;
       files = run.files;

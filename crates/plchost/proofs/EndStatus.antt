@@ -1,5 +1,5 @@
 -- What a run that read its input to the end says: values up to their ending, or a script.
-use Rattle.std.proofs.Common.{◌≡◌, ℕ, ◌≤◌, ◌⊎◌, true, false, List, ◌++◌, length, take, Option, Some, None, refl, inl, inr, sym, ap, subst, ◌∙◌, arith}
+use Rattle.std.proofs.Common.{◌≡◌, ◌<◌, ℕ, ◌⊎◌, true, false, List, ◌++◌, length, take, Option, Some, None, refl, inl, inr, sym, ap, subst, ◌∙◌, arith}
 use Rattle.std.specs.Prelude.{if◌then◌else◌, nat_le}
 use Rattle.std.proofs.lemmas.Bool.Decides.{nat_tests}
 use Rattle.node_tree.specs.declared.readings.Reading.{Reading}
@@ -61,7 +61,7 @@ decoded words counts_with b a t d def readings ending outcome took comes ended i
 -- ---- scripts
 
 -- a line that needn't stand is behind the second
-behind_second : (next : ℕ) → must_stand next ≡ false → 2 ≤ next
+behind_second : (next : ℕ) → must_stand next ≡ false → 2 < next
 behind_second next h = let past : nat_le next 2 ≡ false = h in grind (arith, nat_tests)
 
 -- the lines of a script that was answered to its end
@@ -73,14 +73,16 @@ AnsweredBy lines text last =
     × Leads (record { next = 1; conn = None }) lines (record { next = next; conn = Some state })
     × IsUnworn next state
     × (last ≡ (entries_said (length state.journal)).text)
+    × (2 < next)
 
 answered_to_the_end : (lines : List (List ℕ)) (text : List ℕ) (next entries : ℕ) → Script lines text (Answered next entries) → (script_said next entries).status ≡ 0 → AnsweredBy lines text (script_said next entries).text
 answered_to_the_end lines text next entries script e =
     elim (must_stand next) as (λ v. must_stand next ≡ v → (if v then line_refused next else entries_said entries).status ≡ 0 → AnsweredBy lines text (if v then line_refused next else entries_said entries).text) [
       | true ↦ λ past h. absurd (omega (arith, h))
       | false ↦ λ past h.
-          let come = open_end lines text next entries script (behind_second next past) in
-          (next, come.0, subst (λ n. Script lines text (Answered next n)) come.2 script, come.3, come.1, ap (λ (n : ℕ). (entries_said n).text) come.2)
+          let two = behind_second next past in
+          let come = open_end lines text next entries script (omega arith) in
+          (next, come.0, subst (λ n. Script lines text (Answered next n)) come.2 script, come.3, come.1, ap (λ (n : ℕ). (entries_said n).text) come.2, two)
     ] refl e
 
 replayed : (words : List (List ℕ)) (b a : Shown) (file : Option (List ℕ)) (bytes : List ℕ) (how : Option How) (text : List ℕ) (end : ScriptEnd) (outcome : Said) → InputTaken b.input a.input bytes how → ComesTo words (record { file = file; bytes = bytes; how = how }) (Answers text end) → IsDecided how (Answers text end) → outcome ≡ said how (Answers text end) → outcome.status ≡ 0 → a.out.held ≡ after_taking outcome.text b.out.held
@@ -101,6 +103,7 @@ replayed words b a file bytes (Some Ended) text (Answered next entries) outcome 
       answered = by.2;
       leads = by.3;
       unworn = by.4;
+      two = by.6;
       put_out = put ∙ ap (λ (o : Said). after_taking o.text b.out.held) is ∙ ap (λ (last : List ℕ). after_taking (text ++ last) b.out.held) by.5;
     }
 

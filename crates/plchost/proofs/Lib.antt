@@ -22,4 +22,5 @@ pub mod StatusLemmas
 pub mod StreamLemmas
 pub mod TokenLaws
 pub mod ToolLemmas
+pub mod WholeLines
 pub mod WordLemmas

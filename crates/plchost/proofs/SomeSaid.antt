@@ -189,3 +189,37 @@ pub some_said : (words : List (List ℕ)) (t : Taken) (left : How) → t.how ≡
 some_said words t left e =
     subst (λ (how : Option How). (outcome : Said) × Tool words (record { file = t.file; bytes = t.bytes; how = how }) outcome) (sym e)
     (some_by words t.file t.bytes left)
+
+-- ---- an input that is left alone
+
+-- the words and the file lead to values of a type
+abbrev LeadToValues : (words : List (List ℕ)) → Option (List ℕ) → Type 0
+LeadToValues words file =
+    (name : List ℕ) × (kind : List ℕ) × (text : List ℕ) × (d : Description) × (def : ℕ) × AreDecode words name kind × (file ≡ Some text) × FirstForm text d × Names d def kind
+
+abbrev SaidAlone : (words : List (List ℕ)) → Option (List ℕ) → (bytes : List ℕ) → Type 0
+SaidAlone words file bytes = (outcome : Said) × Tool words (record { file = file; bytes = bytes; how = None }) outcome
+
+alone_decoding : (words : List (List ℕ)) (name kind : List ℕ) (file : Option (List ℕ)) (bytes : List ℕ) → AreDecode words name kind → (LeadToValues words file → ⊥) → SaidAlone words file bytes
+alone_decoding words name kind None bytes decode none = (said None FileFault, (FileFault, (name, kind, decode, refl), tt, refl))
+alone_decoding words name kind (Some text) bytes decode none =
+    elim (form_or_not text) [
+      | inr unformed ↦ (said None NotBuilt, (NotBuilt, (name, kind, text, decode, refl, unformed), tt, refl))
+      | inl form ↦ elim (named_or_not text form.0 kind form.1) [
+        | inr unnamed ↦ (said None TypeRefused, (TypeRefused, (name, kind, text, form.0, decode, refl, form.1, unnamed), tt, refl))
+        | inl found ↦ absurd (none (name, kind, text, form.0, found.0, decode, refl, form.1, found.1))
+      ]
+    ]
+
+alone_by : (words : List (List ℕ)) (file : Option (List ℕ)) (bytes : List ℕ) → (AreReplay words → ⊥) → (LeadToValues words file → ⊥) → SaidAlone words file bytes
+alone_by words file bytes other none =
+    elim (decode_or_not words) [
+      | inl decode ↦ alone_decoding words decode.0 decode.1 file bytes decode.2 none
+      | inr refused ↦ (said None WordsRefused, (WordsRefused, (refused, other), tt, refl))
+    ]
+
+pub said_alone : (words : List (List ℕ)) (t : Taken) → t.how ≡ None → (AreReplay words → ⊥)
+    → ((name kind text : List ℕ) (d : Description) (def : ℕ) → AreDecode words name kind → t.file ≡ Some text → FirstForm text d → Names d def kind → ⊥) → (outcome : Said) × Tool words t outcome
+said_alone words t e other none =
+    subst (λ (how : Option How). (outcome : Said) × Tool words (record { file = t.file; bytes = t.bytes; how = how }) outcome) (sym e)
+    (alone_by words t.file t.bytes other (λ h. none h.0 h.1 h.2 h.3 h.4 h.5 h.6 h.7 h.8))

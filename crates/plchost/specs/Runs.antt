@@ -1,5 +1,5 @@
 -- What a run of the program did with its streams, as they tell it and by their counts.
-use Rattle.std.specs.Prelude.{ℕ, ◌≡◌, ◌≢◌, ◌+◌, ◌≤◌, ◌⊎◌, List, [], ◌++◌, take, length, codes, Option, Some, None, Result, Ok, Err, IfOk, IfSome, IsTrue}
+use Rattle.std.specs.Prelude.{ℕ, ◌≡◌, ◌≢◌, ◌+◌, ◌<◌, ◌≤◌, ◌⊎◌, List, [], ◌++◌, take, length, codes, Option, Some, None, Result, Ok, Err, IfOk, IfSome, IsTrue}
 use Rattle.link_io.specs.Counts.{Rose}
 use Rattle.link_io.specs.Streams.{LeavesFiles, ShelfSeen, SinkSeen, SourceSeen, after_giving, AreNext, IsAtEnd, after_taking}
 use Rattle.node_tree.specs.declared.readings.Reading.{Reading}
@@ -15,7 +15,7 @@ use Rattle.script_replay.specs.Replays.{IsUnworn, Leads, Script}
 use Rattle.script_replay.specs.declared.replays.ScriptEnd.{ScriptEnd}
 use Rattle.script_replay.specs.declared.replays.ScriptEnd.TheVariants.{Answered}
 use Rattle.plchost.specs.FirstForm.{FirstForm}
-use Rattle.plchost.specs.Lines.{lines_of}
+use Rattle.plchost.specs.Lines.{AreWholeLines, lines_of}
 use Rattle.plchost.specs.Tool.{AreDecode, AreReplay, IsFront, Names, Said, Taken, Tool, entries_said, input_limit, last_said, listings}
 
 -- How the input was left, by its two counts and the bytes that were taken.
@@ -90,11 +90,12 @@ pub record RunsTo (words : List (List ℕ)) (counts_with : List ℕ → List ℕ
       × Tool words t outcome
       × Adds before.out.held after.out.held gathered gathered' outcome.text
       × (status ≡ outcome.status))
-  -- Where memory ran out a front of it was added.
+  -- Where memory ran out a front of it was added, of whole lines.
   pub no_memory : ran ≡ Err NoMemory → (t : Taken) × (front : List ℕ)
       × Took words counts_with before.files after.files before.input after.input t
       × IsFront words t front
       × Adds before.out.held after.out.held gathered gathered' front
+      × AreWholeLines front
   -- Where the output failed a front of it went out, or a front of what was gathered before.
   pub cut : ran ≡ Err WriteFault → (t : Taken) × (front : List ℕ)
       × Took words counts_with before.files after.files before.input after.input t
@@ -120,15 +121,16 @@ pub record IsRun (words : List (List ℕ)) (counts_with : List ℕ → List ℕ 
       × Tool words t outcome
       × (after.out.held ≡ after_taking outcome.text before.out.held)
       × (status ≡ outcome.status)
-  -- Where memory ran out it is a front of that text, and then a line that says so.
+  -- Where memory ran out it is a front of that text, of whole lines, and then a line that says so.
   pub no_memory : status ≡ 8 → (t : Taken) × (front : List ℕ)
       × Took words counts_with before.files after.files before.input after.input t
       × IsFront words t front
       × (after.out.held ≡ after_taking (front ++ codes "no memory\n") before.out.held)
+      × AreWholeLines front
   -- Where the output failed it is a front of what would have been put out otherwise.
   pub write_fault : status ≡ 5 → (t : Taken) × (whole : List ℕ)
       × Took words counts_with before.files after.files before.input after.input t
-      × (IsFront words t whole ⊎ ((front : List ℕ) × IsFront words t front × (whole ≡ front ++ codes "no memory\n")))
+      × (IsFront words t whole ⊎ ((front : List ℕ) × IsFront words t front × AreWholeLines front × (whole ≡ front ++ codes "no memory\n")))
       × PutsFront before.out.held after.out.held whole
   -- The output failed exactly where its count rose.
   pub out_failed : status ≡ 5 → Rose before.out.faults after.out.faults
@@ -168,6 +170,8 @@ pub record WasReplayed (words : List (List ℕ)) (before after : Shown) : Type 0
   pub answered : Script (lines_of (Some Ended) (take input_limit taken)) text (Answered next (length state.journal))
   pub leads : Leads (record { next = 1; conn = None }) (lines_of (Some Ended) (take input_limit taken)) (record { next = next; conn = Some state })
   pub unworn : IsUnworn next state
+  -- The two lines stand that must.
+  pub two : 2 < next
   pub put_out : after.out.held ≡ after_taking (text ++ (entries_said (length state.journal)).text) before.out.held
 
 -- the statuses of a run that stops before it reads its input

@@ -3,7 +3,7 @@ ghost use Rattle.link_io.specs.Counts.{Rose};
 ghost use Rattle.script_replay.specs.Replays.{Script};
 ghost use Rattle.script_replay.specs.declared.replays.ScriptEnd.{ScriptEnd};
 ghost use Rattle.plchost.specs.declared.inputs.How.{How};
-ghost use Rattle.plchost.specs.Lines.{lines_of};
+ghost use Rattle.plchost.specs.Lines.{AreWholeLines, lines_of};
 ghost use Rattle.plchost.specs.Tool.{input_limit, script_last};
 ghost use Rattle.plchost.specs.Runs.{Adds, PutsFront, InputTaken, IsScriptFront};
 
@@ -31,7 +31,8 @@ pub fn replay<S: Source, K: Sink>(
     ensures no_memory { result ≡ Err Cut.NoMemory → (taken : List ℕ) × (how : Option How) × (front : List ℕ)
         × InputTaken (S.seen input.old) (S.seen input.new) taken how
         × IsScriptFront how taken front
-        × Adds (K.seen out.old).held (K.seen out.new).held gathered.old.items gathered.new.items front }
+        × Adds (K.seen out.old).held (K.seen out.new).held gathered.old.items gathered.new.items front
+        × AreWholeLines front }
     ensures cut { result ≡ Err Cut.WriteFault → (taken : List ℕ) × (how : Option How) × (front : List ℕ)
         × InputTaken (S.seen input.old) (S.seen input.new) taken how
         × IsScriptFront how taken front

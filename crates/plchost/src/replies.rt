@@ -4,7 +4,7 @@ ghost use Rattle.script_lines.specs.Scripts.{IsLine};
 ghost use Rattle.script_lines.specs.declared.commands.Command.{Command};
 ghost use Rattle.script_replay.specs.Replays.{Script, after_line, reply_text};
 ghost use Rattle.script_replay.specs.declared.replays.ScriptEnd.{ScriptEnd};
-ghost use Rattle.plchost.specs.Lines.{lines_in};
+ghost use Rattle.plchost.specs.Lines.{AreWholeLines, lines_in};
 ghost use Rattle.plchost.specs.Runs.{Adds, PutsFront};
 
 use crate::faults::Cut;
@@ -66,7 +66,8 @@ pub fn put_answers<K: Sink>(
     ensures no_fault { result ≡ Err Cut.WriteFault ⊎ ((K.seen out.new).faults ≡ (K.seen out.old).faults) }
     ensures no_memory { result ≡ Err Cut.NoMemory → (front rest : List ℕ) × (end : ScriptEnd)
         × Script (lines_in ended bytes.now) (front ++ rest) end
-        × Adds (K.seen out.old).held (K.seen out.new).held gathered.old.items gathered.new.items front }
+        × Adds (K.seen out.old).held (K.seen out.new).held gathered.old.items gathered.new.items front
+        × AreWholeLines front }
     ensures cut { result ≡ Err Cut.WriteFault → (front rest : List ℕ) × (end : ScriptEnd)
         × Script (lines_in ended bytes.now) (front ++ rest) end
         × PutsFront (K.seen out.old).held (K.seen out.new).held (gathered.old.items ++ front) }

@@ -1,7 +1,6 @@
 ghost use Rattle.std.specs.Prelude.{◌<◌};
 
-use crate::tests::{Failing, NONE_FAILS, Ran, run, string_list};
-use crate::tool::tool_main;
+use crate::tests::{Failing, NONE_FAILS, Ran, call_main, run, string_list};
 use link_io::{MemShelf, MemSink, MemSource};
 use std::alloc::{AllocError, Global};
 use std::test::Fail;
@@ -222,7 +221,7 @@ fn a_script_without_room_for_its_answers_is_a_write_fault(rt: HostRuntime) -> Re
         let script = Vec::from_slice(rt.alloc(), b"table 2 8 1 64 60000 60000\nask 1 0\n")?;
         let mut source = MemSource::new(script, Vec::new(rt.alloc()));
         let mut out = MemSink::new(rt.alloc(), room, Vec::new(rt.alloc()))?;
-        let status = tool_main(rt.alloc(), &words, &mut files, &mut source, &mut out);
+        let status = call_main(rt.alloc(), &words, &mut files, &mut source, &mut out);
         assert_eq!(rt; status, 5, "room {room}");
         let want: &[u8] = b"granted 1\nentries 1\n";
         assert_eq!(rt; out.bytes(), &want[..room]);

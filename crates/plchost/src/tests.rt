@@ -43,6 +43,17 @@ pub fn string_list(alloc: Global, words: &[&str]) -> Result<StringList, AllocErr
 /// More bytes than any run here puts out.
 const OUT_ROOM: usize = 1_048_576;
 
+/// The program over objects in memory. It has no contract, so that no test's proof reads that of `tool_main`.
+pub fn call_main(
+    alloc: Global,
+    words: &StringList,
+    files: &mut MemShelf,
+    input: &mut MemSource,
+    out: &mut MemSink,
+) -> u8 {
+    tool_main(alloc, words, files, input, out)
+}
+
 /// Runs the program over a shelf with the one file `p`, in pieces of at most `piece` bytes.
 pub fn run(
     alloc: Global,
@@ -63,7 +74,7 @@ pub fn run(
     let mut source = MemSource::new(Vec::from_slice(alloc, input)?, reads).in_pieces(piece);
     let writes = Vec::from_slice(alloc, failing.writes)?;
     let mut out = MemSink::new(alloc, OUT_ROOM, writes)?.in_pieces(piece);
-    let status = tool_main(alloc, &words, &mut files, &mut source, &mut out);
+    let status = call_main(alloc, &words, &mut files, &mut source, &mut out);
     let text = Vec::from_slice(alloc, out.bytes())?;
     Ok(Ran { text, status })
 }
@@ -150,7 +161,7 @@ fn a_word_that_is_no_text_is_refused(rt: HostRuntime) -> Result<(), Fail> {
     let mut files = MemShelf::new(Vec::new(rt.alloc()), Vec::new(rt.alloc()));
     let mut source = MemSource::new(Vec::new(rt.alloc()), Vec::new(rt.alloc()));
     let mut out = MemSink::new(rt.alloc(), OUT_ROOM, Vec::new(rt.alloc()))?;
-    let status = tool_main(rt.alloc(), &words, &mut files, &mut source, &mut out);
+    let status = call_main(rt.alloc(), &words, &mut files, &mut source, &mut out);
     assert_eq!(rt; out.bytes(), b"words refused\n".as_slice());
     assert_eq!(rt; status, 2);
     let read = string_list(rt.alloc(), &["replay"])?;
@@ -243,6 +254,23 @@ fn a_fault_at_each_call_has_its_status(rt: HostRuntime) -> Result<(), Fail> {
 }
 
 #[test]
+fn a_read_fault_behind_a_part_of_a_value_leaves_it_out(rt: HostRuntime) -> Result<(), Fail> {
+    // the fourth byte begins a second value, and the read behind it fails
+    for (piece, at) in [(1usize, 5u64), (2, 3), (3, 3), (4, 2)] {
+        let failing = Failing {
+            reads: &[at],
+            ..NONE_FAILS
+        };
+        let words = ["decode", "p", "P"];
+        let ran = run(rt.alloc(), &words, P, b"\x01\x00\x02\x01", failing, piece)?;
+        let want: &[u8] = b"a = 1\nb = 2\n\nread fault\n";
+        assert_eq!(rt; ran.text.as_slice(), want, "pieces of {piece}");
+        assert_eq!(rt; ran.status, 4);
+    }
+    Ok(())
+}
+
+#[test]
 fn an_output_without_room_is_a_write_fault(rt: HostRuntime) -> Result<(), Fail> {
     let words = string_list(rt.alloc(), &["decode", "p", "P"])?;
     for room in 0usize..13 {
@@ -255,7 +283,7 @@ fn an_output_without_room_is_a_write_fault(rt: HostRuntime) -> Result<(), Fail> 
         let input = Vec::from_slice(rt.alloc(), b"\x01\x00\x02")?;
         let mut source = MemSource::new(input, Vec::new(rt.alloc()));
         let mut out = MemSink::new(rt.alloc(), room, Vec::new(rt.alloc()))?;
-        let status = tool_main(rt.alloc(), &words, &mut files, &mut source, &mut out);
+        let status = call_main(rt.alloc(), &words, &mut files, &mut source, &mut out);
         assert_eq!(rt; status, 5, "room {room}");
         let want: &[u8] = b"a = 1\nb = 2\n\n";
         assert_eq!(rt; out.bytes(), &want[..room]);

@@ -1,4 +1,4 @@
-ghost use Rattle.std.specs.Prelude.{◌≡◌, ◌≢◌, ◌+◌, ◌<◌, ◌⊎◌, ℕ, List, ◌++◌, take, Some, Ok, Err, IfOk, OnOk, OnErr};
+ghost use Rattle.std.specs.Prelude.{◌≡◌, ◌≢◌, ◌+◌, ◌<◌, ◌⊎◌, ℕ, List, ◌++◌, take, None, Some, Ok, Err, IfOk, OnOk, OnErr};
 ghost use Rattle.link_io.specs.Counts.{Rose};
 ghost use Rattle.link_io.specs.Streams.{after_taking};
 ghost use Rattle.mspec_tree.specs.declared.defs.Description.{Description};
@@ -26,9 +26,14 @@ pub fn one_said()
     ensures { (words : List (List ℕ)) (t : Taken) (one other : Said) → Tool words t one → Tool words t other → one ≡ other }
 {}
 
-/// By its words, and what it took of an input that it left, a run says something.
+/// By its words, and what it took of an input that it left, a run says something. It says something too where it left the input
+/// alone, and its words, its file and the type in it lead to no script and to no values.
 pub fn some_said()
-    ensures { (words : List (List ℕ)) (t : Taken) (left : How) → t.how ≡ Some left → (outcome : Said) × Tool words t outcome }
+    ensures left { (words : List (List ℕ)) (t : Taken) (left : How) → t.how ≡ Some left → (outcome : Said) × Tool words t outcome }
+    ensures alone { (words : List (List ℕ)) (t : Taken) → t.how ≡ None → (AreReplay words → ⊥)
+        → ((name kind text : List ℕ) (d : Description) (def : ℕ)
+        → AreDecode words name kind → t.file ≡ Some text → FirstForm text d → Names d def kind → ⊥)
+        → (outcome : Said) × Tool words t outcome }
 {}
 
 /// Adds what the run says to what is gathered, of which some may go out on the way, and answers the status.
@@ -176,7 +181,7 @@ pub fn tool_main<F: Shelf, S: Source, K: Sink>(
         (shown (F.seen files.new) (S.seen input.new) (K.seen out.new))
         → (result ≡ 0) ⊎ (result ≡ 8) }
     // No value by a description in the first form is refused.
-    ensures none_refused { result ≢ 6 }
+    ensures no_value_refused { result ≢ 6 }
     // A line is refused only where it is the first that leaves the first form, or must stand and is missing.
     ensures line_refused { result ≡ 10 → AreReplay words.now
         × ((taken : List ℕ) × (left : How) × (text : List ℕ) × (end : ScriptEnd) × (line : ℕ)

@@ -69,7 +69,7 @@ call_place n (Frame bytes) h = (omega arith, omega arith)
 call_place n (Cancel caller id) h = (omega arith, omega arith)
 call_place n (Collect caller id) h = (omega arith, omega arith)
 
-call_plain : (call : Call) → is_worn (event_of call) ≡ false
+pub call_plain : (call : Call) → is_worn (event_of call) ≡ false
 call_plain (AskLease caller now) = refl
 call_plain (Submit caller lease now timeout payload) = refl
 call_plain TakeSend = refl

@@ -1,6 +1,6 @@
 ghost use Rattle.std.specs.Prelude.{◌≡◌, ◌≤◌, ◌-◌, ◌++◌, ℕ, List, length, take, slice_get, codes, Some, None};
 ghost use Rattle.std.specs.List.{AllByRecursion, flat_map};
-ghost use Rattle.answer_texts.specs.Lines.{IsFeedless};
+ghost use Rattle.answer_texts.specs.Lines.{IsWordLine};
 ghost use Rattle.conn_core.specs.States.{State};
 ghost use Rattle.script_lines.specs.Scripts.{IsLine};
 ghost use Rattle.script_lines.specs.declared.commands.Command.{Command};
@@ -22,10 +22,10 @@ pub fn some_script()
     ensures { (lines : List (List ℕ)) → (text : List ℕ) × (end : ScriptEnd) × Script lines text end }
 {}
 
-/// A script's text has one line for each line that was taken but the first.
+/// A script's text has one line for each line that was taken but the first, of words that stand apart by one blank.
 pub fn answered_line_by_line()
     ensures { (lines : List (List ℕ)) (text : List ℕ) (end : ScriptEnd) → Script lines text end
-        → (answers : List (List ℕ)) × AllByRecursion IsFeedless answers
+        → (answers : List (List ℕ)) × AllByRecursion IsWordLine answers
         × (text ≡ flat_map (λ answer. answer ++ codes "\n") answers) × (length answers ≡ answers_by end) }
 {}
 

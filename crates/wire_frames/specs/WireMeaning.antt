@@ -26,7 +26,7 @@ pub record WireMeaning : Type 0 where
   pub rule : LengthRule
   -- which asks it carries
   pub admits : Ask → Bool
-  -- the bytes of the larger of the ask's frame and the reply that completes it
+  -- the bytes of the larger of the ask's frame and the reply that completes it, as far as the wire knows how long a reply is
   pub size : Ask → ℕ
   -- how many bytes a frame may have
   pub limit : ℕ
@@ -73,6 +73,6 @@ IsReplyWith ask (Lost reason) values = ⊥
 abbrev pub IsReplyKind : Ask → Outcome → Type 0
 IsReplyKind ask outcome = IsReplyWith ask outcome.kind outcome.values
 
--- an outcome has values only where it is done
-abbrev pub HasValuesOnlyIfDone : Outcome → Type 0
-HasValuesOnlyIfDone outcome = (outcome.kind ≡ Done) ⊎ (outcome.values ≡ [])
+-- an outcome has no values, or it is done and has as many rows of them as answer the ask
+abbrev pub HasValuesFor : Ask → Outcome → Type 0
+HasValuesFor ask outcome = (outcome.values ≡ []) ⊎ ((outcome.kind ≡ Done) × (length outcome.values ≡ rows_of ask))

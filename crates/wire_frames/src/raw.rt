@@ -174,5 +174,5 @@ impl Wire for RawWire {
 
     ghost replies = { λ wire ask reading admitted. raw_replies ask (payload_of reading.node) admitted };
 
-    ghost sized = { λ wire ask reference frame admitted is. raw_sized ask reference frame is };
+    ghost sized = { λ wire ask reference frame above below admitted is. raw_sized ask reference frame is };
 }

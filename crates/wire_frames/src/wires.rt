@@ -1,4 +1,4 @@
-ghost use Rattle.std.specs.Prelude.{ℕ, ◌≡◌, ◌<◌, ◌≤◌, List, length, IfOk, IsTrue, Ok};
+ghost use Rattle.std.specs.Prelude.{ℕ, ◌≡◌, ◌<◌, ◌≤◌, ◌^◌, List, length, IfOk, IsTrue, Ok};
 
 use crate::asks::Ask;
 use crate::ends::{FrameWhy, Outcome};
@@ -94,7 +94,7 @@ pub trait Wire: Drop + Send {
     fn admits(&self, ask: &Ask) -> bool
         ensures { result ≡ (meaning self.now).admits ask.now };
 
-    /// The bytes of the larger of the ask's frame and the reply that completes it.
+    /// The bytes of the larger of the ask's frame and the reply that completes it, as far as the wire knows how long a reply is.
     fn size(&self, ask: &Ask) -> u32
         requires { IsTrue ((meaning self.now).admits ask.now) }
         ensures { result ≡ (meaning self.now).size ask.now };
@@ -123,6 +123,6 @@ pub trait Wire: Drop + Send {
     /// item of the ask, or one row for a raw ask.
     ghost replies: { (wire : Self) (ask : Ask) (reading : Reading) → IsTrue ((meaning wire).admits ask) → IsReplyKind ask ((meaning wire).fit ask reading) };
 
-    /// A frame has no more bytes than the wire says of its ask.
-    ghost sized: { (wire : Self) (ask : Ask) (reference : ℕ) (frame : List ℕ) → IsTrue ((meaning wire).admits ask) → (meaning wire).frame_of ask reference ≡ Ok frame → length frame ≤ (meaning wire).size ask };
+    /// A frame under a reference, a number of 16 bits above 0, has no more bytes than the wire says of its ask.
+    ghost sized: { (wire : Self) (ask : Ask) (reference : ℕ) (frame : List ℕ) → 0 < reference → reference < 2 ^ 16 → IsTrue ((meaning wire).admits ask) → (meaning wire).frame_of ask reference ≡ Ok frame → length frame ≤ (meaning wire).size ask };
 }

@@ -1,11 +1,11 @@
 use Rattle.std.proofs.Common.{arith, sym, subst}
+use Rattle.conn_core.specs.AdmittedRows.{IsAdmittedRow}
 use Rattle.conn_core.specs.Finds.{IsFirstAt}
 use Rattle.conn_core.specs.Rooms.{lists_of, references_kept}
-use Rattle.conn_core.specs.SoundRows.{IsSoundRow}
 use Rattle.conn_core.specs.Tables.{is_sent_with}
+use Rattle.conn_core.proofs.AllLemmas.{all_found}
 use Rattle.conn_core.proofs.EndLemmas.{weight_found}
 use Rattle.conn_core.proofs.FrameLemmas.{arrives, sent_keeps}
-use Rattle.conn_core.proofs.SoundLemmas.{all_found}
 use Rattle.conn_core.proofs.receiving.arrive.Goals as goal
 
 pub fit-requires-clause-admitted : goal.fit-requires-clause-admitted
@@ -14,7 +14,7 @@ fit-requires-clause-admitted g c =
     let rows = c.args.table.now.rows.items in
     let p = is_sent_with c.args.reply.now.reference in
     let first : IsFirstAt p rows c.in-Some.at = subst (λ xs. IsFirstAt p xs c.in-Some.at) c.deref.ensures.value c.in-Some.ensures in
-    (all_found (IsSoundRow (g.W.Wire.meaning c.args.wire.now)) p rows row (first.found row (sym c.index_mut-row.ensures.value)) c.requires.sound).ask
+    (all_found (IsAdmittedRow (g.W.Wire.meaning c.args.wire.now)) p rows row (first.found row (sym c.index_mut-row.ensures.value)) c.requires.admitted).ask
 
 pub add_back-requires : goal.add_back-requires
 add_back-requires g c =

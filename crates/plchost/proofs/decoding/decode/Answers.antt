@@ -10,6 +10,7 @@ use Rattle.plchost.proofs.FormReads.{form_reads}
 use Rattle.plchost.proofs.RunLemmas.{Adds-more, Adds-same, Adds-nothing, Adds-gathered}
 use Rattle.plchost.proofs.ToolLemmas.{untouched, both_ok, refusal_tool, decoded, comes_to_values, front_of_values, front_before_last, taken_so, values_tool}
 use Rattle.plchost.proofs.StatusLemmas.{not_early}
+use Rattle.plchost.proofs.WholeLines.{listings_whole}
 use Rattle.plchost.proofs.decoding.decode.Goals as goal
 
 pub returns-in-Err-clause-run : goal.returns-in-Err-clause-run
@@ -24,7 +25,7 @@ returns-in-Err-clause-run g c =
           (λ status added memory. (untaken refused.0, refusal_said c.in-Err.refusal, record { from_files = refused.1; from_input = alone }, refusal_tool c.args.words.now refused.0 c.in-Err.refusal memory refused.2, Adds-gathered held held t0 t1 (refusal_said c.in-Err.refusal).text refl added.0, added.1));
       no_memory = λ e.
           let same = IfErr-at_err (λ cut. (cut ≡ NoMemory) × (t1 ≡ t0)) e c.say.ensures.unchanged in
-          (untaken refused.0, [], record { from_files = refused.1; from_input = alone }, inl refl, Adds-nothing held held t0 t1 refl same.1);
+          (untaken refused.0, [], record { from_files = refused.1; from_input = alone }, inl refl, Adds-nothing held held t0 t1 refl same.1, inl refl);
       cut = search rules;
       out_failed = search rules;
       out_well = search rules;
@@ -39,7 +40,7 @@ returns-in_err-capture-clause-run g c =
     let t0 = c.args.gathered.now.items in
     record {
       said = search rules;
-      no_memory = λ e. (record { file = Some ready.2; bytes = taken.0; how = taken.1 }, [], record { from_files = ready.4; from_input = taken.2 }, inl refl, Adds-nothing held held t0 t0 refl refl);
+      no_memory = λ e. (record { file = Some ready.2; bytes = taken.0; how = taken.1 }, [], record { from_files = ready.4; from_input = taken.2 }, inl refl, Adds-nothing held held t0 t0 refl refl, inl refl);
       cut = search rules;
       out_failed = search rules;
       out_well = search rules;
@@ -68,7 +69,7 @@ returns-in_err-rest-clause-run g c =
       no_memory = λ e.
           let cut = c.in_err-rest.ensures.no_memory (cc) in
           let comes = comes_to_values c.args.words.now ready.0 ready.1 ready.2 taken (take n now) how d def (cut.0 ++ cut.1) cut.2 ready.3 ready.5 ready.6 same cut.3 in
-          (taken_so ready.2 taken how, listings d def cut.0, record { from_files = ready.4; from_input = cap }, front_of_values c.args.words.now ready.2 taken how d def cut.0 cut.1 cut.2 comes, cut.4);
+          (taken_so ready.2 taken how, listings d def cut.0, record { from_files = ready.4; from_input = cap }, front_of_values c.args.words.now ready.2 taken how d def cut.0 cut.1 cut.2 comes, cut.4, listings_whole d def cut.0);
       cut = λ e.
           let cut = c.in_err-rest.ensures.cut (cc) in
           let comes = comes_to_values c.args.words.now ready.0 ready.1 ready.2 taken (take n now) how d def (cut.0 ++ cut.1) cut.2 ready.3 ready.5 ready.6 same cut.3 in
@@ -97,7 +98,7 @@ returns-in_err-status-clause-run g c =
     let added = Adds-same h0 h1 h1 c.args.gathered.now.items c.put_values.new.gathered.items c.close.new.gathered.items (listings d def values.0) values.2 refl c.in_err-status.ensures.unchanged in
     record {
       said = search rules;
-      no_memory = λ e. (taken_so ready.2 taken how, listings d def values.0, record { from_files = ready.4; from_input = cap }, front_before_last c.args.words.now ready.2 taken how d def values.0 ending comes, added);
+      no_memory = λ e. (taken_so ready.2 taken how, listings d def values.0, record { from_files = ready.4; from_input = cap }, front_before_last c.args.words.now ready.2 taken how d def values.0 ending comes, added, listings_whole d def values.0);
       cut = search rules;
       out_failed = search rules;
       out_well = search rules;

@@ -1,10 +1,12 @@
 use Rattle.std.proofs.Common.{[], ◌++◌, take, min, Some, vec_len, inr, refl, ap, ◌∙◌}
 use Rattle.std.proofs.lemmas.List.{append-nil}
 use Rattle.std.proofs.lemmas.Result.{err_from_is_err_and}
+use Rattle.plchost.specs.Lines.{lines_of}
 use Rattle.plchost.specs.Tool.{script_last}
 use Rattle.plchost.proofs.ReplyLemmas.{script_of}
 use Rattle.plchost.proofs.RunLemmas.{Adds-more, Adds-same, Adds-gathered}
 use Rattle.plchost.proofs.ToolLemmas.{decoded}
+use Rattle.plchost.proofs.WholeLines.{script_whole}
 use Rattle.plchost.proofs.replaying.replay.Goals as goal
 
 pub returns-in_err-end-clause-no_memory : goal.returns-in_err-end-clause-no_memory
@@ -18,7 +20,7 @@ returns-in_err-end-clause-no_memory g c =
     λ (e : _).
     let cut = c.in_err-end.ensures.no_memory (cc) in
     let script = script_of how c.has_ended-ended.result (take n now) (take 16777216 taken) (cut.0 ++ cut.1) cut.2 c.has_ended-ended.ensures same cut.3 in
-    (taken, Some how, cut.0, c.in_ok-script.ensures.taken, inr (how, cut.0 ++ cut.1, cut.1, cut.2, refl, script, refl), cut.4)
+    (taken, Some how, cut.0, c.in_ok-script.ensures.taken, inr (how, cut.0 ++ cut.1, cut.1, cut.2, refl, script, refl), cut.4, cut.5)
 
 pub returns-in_err-end-clause-cut : goal.returns-in_err-end-clause-cut
 returns-in_err-end-clause-cut g c =
@@ -46,7 +48,7 @@ returns-in_err-status-clause-no_memory g c =
     let h0 = (g.K.Sink.seen c.args.out.now).held in
     let h1 = (g.K.Sink.seen c.put_answers.new.out).held in
     let added = Adds-same h0 h1 h1 c.args.gathered.now.items c.put_answers.new.gathered.items c.close_script.new.gathered.items answers.0 answers.2 refl c.in_err-status.ensures.unchanged in
-    λ (e : _). (taken, Some how, answers.0, c.in_ok-script.ensures.taken, inr (how, answers.0, [], end, refl, script, append-nil answers.0), added)
+    λ (e : _). (taken, Some how, answers.0, c.in_ok-script.ensures.taken, inr (how, answers.0, [], end, refl, script, append-nil answers.0), added, script_whole (lines_of (Some how) (take 16777216 taken)) answers.0 end script)
 
 pub returns-clause-said : goal.returns-clause-said
 returns-clause-said g c =

@@ -6,6 +6,7 @@ use Rattle.script_replay.specs.declared.replays.ScriptEnd.TheVariants.{Answered,
 use Rattle.plchost.specs.Lines.{lines_in}
 use Rattle.plchost.proofs.ReplyLemmas.{GoesOn, goes_first, one_more_answer, ends_answered, ends_refused, some_answers}
 use Rattle.plchost.proofs.RunLemmas.{Adds-more, Adds-same, Adds-nothing, PutsFront-after}
+use Rattle.plchost.proofs.WholeLines.{one_more_whole}
 use Rattle.plchost.proofs.replies.put_answers.Goals as goal
 
 pub loop-line-init : goal.loop-line-init
@@ -17,6 +18,7 @@ loop-line-init g c =
       Adds-nothing held held t0 t0 refl refl,
       refl,
       subst (λ (p : Position). GoesOn all p.next p.conn all []) (sym c.new-replay.ensures) (goes_first all),
+      inl refl,
     )
 
 pub returns-in_err-put_answer-clause-no_memory : goal.returns-in_err-put_answer-clause-no_memory
@@ -32,6 +34,7 @@ returns-in_err-put_answer-clause-no_memory g c =
       some.1,
       some.2,
       Adds-same (g.K.Sink.seen c.args.out.now).held (g.K.Sink.seen c.loop-line.out).held (g.K.Sink.seen c.put_answer.new.out).held c.args.gathered.now.items c.loop-line.gathered.items c.put_answer.new.gathered.items inv.0 inv.1 same.0 same.1,
+      inv.4,
     )
 
 pub returns-in_err-put_answer-clause-cut : goal.returns-in_err-put_answer-clause-cut
@@ -81,6 +84,7 @@ loop-line-preserved g c =
       Adds-more (g.K.Sink.seen c.args.out.now).held (g.K.Sink.seen c.loop-line.out).held (g.K.Sink.seen c.put_answer.new.out).held c.args.gathered.now.items c.loop-line.gathered.items c.put_answer.new.gathered.items inv.0 (reply_text at answered.0) inv.1 answered.2,
       elim c.in_ok-put_answer.ensures.no_fault [ inl bad ↦ absurd cc | inr same ↦ same ∙ inv.2 ],
       subst (λ (p : Position). GoesOn all p.next p.conn left text) (sym answered.3) goes,
+      one_more_whole inv.0 at answered.0 inv.4,
     )
 
 pub returns-clause-answers : goal.returns-clause-answers

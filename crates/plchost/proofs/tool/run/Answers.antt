@@ -16,7 +16,7 @@ returns-then-is_replay-clause-run g c =
           c.replay.ensures.said;
       no_memory = λ e.
           let s = c.replay.ensures.no_memory e in
-          (script_taken s.0 s.1, s.2, record { from_files = shelf; from_input = s.3 }, front_of_script words s.0 s.1 s.2 are s.4, s.5);
+          (script_taken s.0 s.1, s.2, record { from_files = shelf; from_input = s.3 }, front_of_script words s.0 s.1 s.2 are s.4, s.5, s.6);
       cut = λ e.
           let s = c.replay.ensures.cut e in
           (script_taken s.0 s.1, s.2, record { from_files = shelf; from_input = s.3 }, front_of_script words s.0 s.1 s.2 are s.4, s.5);

@@ -1,5 +1,8 @@
-use Rattle.plchost.proofs.SomeSaid.{some_said as said_somehow}
+use Rattle.plchost.proofs.SomeSaid.{said_alone, some_said as said_somehow}
 use Rattle.plchost.proofs.tool.some_said.Goals as goal
 
-pub returns : goal.returns
-returns c = said_somehow
+pub returns-clause-left : goal.returns-clause-left
+returns-clause-left c = said_somehow
+
+pub returns-clause-alone : goal.returns-clause-alone
+returns-clause-alone c = said_alone

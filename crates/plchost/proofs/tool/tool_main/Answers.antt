@@ -117,8 +117,8 @@ returns-clause-type_refused g c =
     let f = refused_at_12 c.args.words.now s.0 s.3.0 s.3.1 (ap (λ (o : Said). o.status) (sym s.3.3) ∙ sym s.5 ∙ twelve) in
     (f.0, f.1, f.2, f.3, f.4, seen_of f.0 (g.F.Shelf.seen c.args.files.now) (g.F.Shelf.seen c.run-ran.new.files) s.0.file f.2 f.5 (s.2.from_files.named f.0 f.1 f.4), f.6, f.7)
 
-pub returns-clause-none_refused : goal.returns-clause-none_refused
-returns-clause-none_refused g c =
+pub returns-clause-no_value_refused : goal.returns-clause-no_value_refused
+returns-clause-no_value_refused g c =
     λ (six : _).
     let s = (returns-clause-run g c).said (λ e. absurd (omega (arith, e, six))) (λ e. absurd (omega (arith, e, six))) in
     no_status_6 c.args.words.now s.0 s.3.0 s.3.1 (ap (λ (o : Said). o.status) (sym s.3.3) ∙ sym s.5 ∙ six)

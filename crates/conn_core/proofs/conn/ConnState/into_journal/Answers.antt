@@ -1,8 +1,10 @@
 use Rattle.std.proofs.Common.{◌+◌, ◌<◌, ◌≤◌, ◌^◌, length, subst}
-use Rattle.conn_core.specs.Journals.{AreAdmitted}
+use Rattle.conn_core.specs.EntryLaw.{EntryLaw}
+use Rattle.conn_core.specs.Journals.{AreAdmitted, AreCarried}
 use Rattle.conn_core.specs.States.{Key, State, connection_of}
 use Rattle.conn_core.specs.TableLaw.{NoneCloses}
 use Rattle.conn_core.proofs.CauseLemmas.{seen_law}
+use Rattle.conn_core.proofs.EntryLemmas.{legal_entries}
 use Rattle.conn_core.proofs.KeptLemmas.{kept_short, kept_within}
 use Rattle.conn_core.proofs.TableLemmas.{state_under_limit}
 use Rattle.conn_core.proofs.conn.ConnState.into_journal.Goals as goal
@@ -27,3 +29,11 @@ returns-clause-admitted g c = subst (λ (v : State _). AreAdmitted (g.W.Wire.mea
 pub returns-clause-by_places : goal.returns-clause-by_places
 returns-clause-by_places g c =
     let key : Key _ = record { wire = c.self.inside.wire; settings = c.self.inside.settings } in seen_law g.W.Wire.meaning key c.self.inside.kept c.self.invariant c.self.view_is
+
+pub returns-clause-by_entries : goal.returns-clause-by_entries
+returns-clause-by_entries g c =
+    let key : Key _ = record { wire = c.self.inside.wire; settings = c.self.inside.settings } in
+    subst (λ (v : State _). EntryLaw (connection_of g.W.Wire.meaning v.key) v.journal) c.self.view_is (legal_entries (connection_of g.W.Wire.meaning key) c.self.inside.kept.journal.items c.self.invariant.legal)
+
+pub returns-clause-carried : goal.returns-clause-carried
+returns-clause-carried g c = subst (λ (v : State _). AreCarried (connection_of g.W.Wire.meaning v.key) v.journal) c.self.view_is c.self.invariant.carried
