@@ -12,7 +12,7 @@ use Rattle.conn_core.specs.States.{Key, State, connection_of, table_in}
 use Rattle.conn_core.specs.Requests.{frame_at, frame_for, prepared, reference_to_try, with_prepared}
 use Rattle.conn_core.specs.Steps.{Request, accepted_of, answer_of, apply_frame, ask_lease, asked, asked_if, cancel, cancel_row, collect, collect_row, next_reference, received, submit, take_send, when_open, with_cancelled, with_collected, with_queued, with_queued_frame, with_reference}
 use Rattle.conn_core.specs.Rooms.{lists_of}
-use Rattle.conn_core.specs.TableLaw.{ClosesWith, TableLaw}
+use Rattle.conn_core.specs.TableLaw.{ClosesWith, IsBounded, TableLaw}
 use Rattle.conn_core.specs.Tables.{Connection, Table, at_moment, holds, is_ended, is_open, is_queued, is_row_of, is_sent, phase_ended, phase_queued, rows_limit, waiters_limit}
 use Rattle.conn_core.specs.declared.answers.AskRefusal.{AskRefusal}
 use Rattle.conn_core.specs.declared.answers.AskRefusal.TheVariants as asks
@@ -58,6 +58,10 @@ closed_cause meaning key k state is reason =
 pub kept_rows : (c : Connection) (k : Kept) → IsState c k → RowLaw c k.journal.items (lists_of k.table)
 kept_rows c k state = subst (RowLaw c k.journal.items) state.table (legal_law c k.journal.items state.legal).rows
 
+-- the kept table is within its bounds
+pub kept_bounds : (c : Connection) (k : Kept) → IsState c k → IsBounded c.settings (lists_of k.table)
+kept_bounds c k state = subst (IsBounded c.settings) state.table (legal_law c k.journal.items state.legal).bounds
+
 -- a table that was closed isn't open
 closed_shut : (t : Table) (closed : Option Reason) (reason : Reason) → t.closed ≡ closed → closed ≡ Some reason → is_open t ≡ false
 closed_shut t None reason is shuts = absurd (cc)
@@ -83,23 +87,25 @@ ask_cause_if t (Some reason) b p e closed room is = let same : asks.Closed reaso
 pub ask_cause : (s : Settings) (t : Table) (actor now : ℕ) (e : AskRefusal) → answer_of (ask_lease s t actor now) ≡ Err e → AskCause t e
 ask_cause s t actor now e is = ask_cause_if t t.closed (nat_lt (length t.waiting) waiters_limit) (asked s (at_moment now t) actor) e refl refl is
 
-must_wait : (s : Settings) (t : Table) (few none : Bool) → nat_lt (length t.held) s.share ≡ few → (length t.waiting == 0) ≡ none → (few && none) ≡ false → MustWait s t
-must_wait s t true true few none is = absurd (cc)
-must_wait s t true false few none is = inr (λ empty. let zero : length t.waiting ≡ 0 = ap length empty in grind (arith, nat_tests))
-must_wait s t false none few none_is is = inl (grind (arith, nat_tests))
+must_wait : (s : Settings) (t : Table) (few none : Bool) → IsBounded s t → nat_lt (length t.held) s.share ≡ few → (length t.waiting == 0) ≡ none → (few && none) ≡ false → MustWait s t
+must_wait s t true true bounds few none is = absurd (cc)
+must_wait s t true false bounds few none is = inr (λ empty. let zero : length t.waiting ≡ 0 = ap length empty in grind (arith, nat_tests))
+must_wait s t false none bounds few none_is is =
+    let most = bounds.held in
+    let least : s.share ≤ length t.held = grind (arith, nat_tests) in inl (omega arith)
 
-asked_waits : (s : Settings) (t : Table) (actor now : ℕ) (b : Bool) (lease place : ℕ) → (nat_lt (length t.held) s.share && (length t.waiting == 0)) ≡ b → (asked_if b s (at_moment now t) actor).1 ≡ lease_answers.Waiting lease place → MustWait s t × (place ≡ length t.waiting)
-asked_waits s t actor now true lease place test is = absurd (cc)
-asked_waits s t actor now false lease place test is = (must_wait s t (nat_lt (length t.held) s.share) (length t.waiting == 0) refl refl test, cc)
+asked_waits : (s : Settings) (t : Table) (actor now : ℕ) (b : Bool) (lease place : ℕ) → IsBounded s t → (nat_lt (length t.held) s.share && (length t.waiting == 0)) ≡ b → (asked_if b s (at_moment now t) actor).1 ≡ lease_answers.Waiting lease place → MustWait s t × (place ≡ length t.waiting)
+asked_waits s t actor now true lease place bounds test is = absurd (cc)
+asked_waits s t actor now false lease place bounds test is = (must_wait s t (nat_lt (length t.held) s.share) (length t.waiting == 0) bounds refl refl test, cc)
 
-waits_if : (s : Settings) (t : Table) (actor now : ℕ) (closed : Option Reason) (b : Bool) (lease place : ℕ) → answer_of (when_open asks.Closed closed (if b then Ok (asked s (at_moment now t) actor) else Err asks.QueueFull)) ≡ Ok (lease_answers.Waiting lease place) → MustWait s t × (place ≡ length t.waiting)
-waits_if s t actor now None true lease place is = let waits : (asked s (at_moment now t) actor).1 ≡ lease_answers.Waiting lease place = cc in asked_waits s t actor now _ lease place refl waits
-waits_if s t actor now None false lease place is = absurd (cc)
-waits_if s t actor now (Some reason) b lease place is = absurd (cc)
+waits_if : (s : Settings) (t : Table) (actor now : ℕ) (closed : Option Reason) (b : Bool) (lease place : ℕ) → IsBounded s t → answer_of (when_open asks.Closed closed (if b then Ok (asked s (at_moment now t) actor) else Err asks.QueueFull)) ≡ Ok (lease_answers.Waiting lease place) → MustWait s t × (place ≡ length t.waiting)
+waits_if s t actor now None true lease place bounds is = let waits : (asked s (at_moment now t) actor).1 ≡ lease_answers.Waiting lease place = cc in asked_waits s t actor now _ lease place bounds refl waits
+waits_if s t actor now None false lease place bounds is = absurd (cc)
+waits_if s t actor now (Some reason) b lease place bounds is = absurd (cc)
 
 -- an actor waits where no lease is left, or others wait before
-pub waits_cause : (s : Settings) (t : Table) (actor now lease place : ℕ) → answer_of (ask_lease s t actor now) ≡ Ok (lease_answers.Waiting lease place) → MustWait s t × (place ≡ length t.waiting)
-waits_cause s t actor now lease place is = waits_if s t actor now t.closed (nat_lt (length t.waiting) waiters_limit) lease place is
+pub waits_cause : (s : Settings) (t : Table) (actor now lease place : ℕ) → IsBounded s t → answer_of (ask_lease s t actor now) ≡ Ok (lease_answers.Waiting lease place) → MustWait s t × (place ≡ length t.waiting)
+waits_cause s t actor now lease place bounds is = waits_if s t actor now t.closed (nat_lt (length t.waiting) waiters_limit) lease place bounds is
 
 -- ---- Submit
 
@@ -181,16 +187,17 @@ send_cause_row : (s : Settings) (t : Table) (o : Option Row) (e : SendRefusal) �
 send_cause_row s t None e found is = let same : sends.Nothing ≡ e = cc in let none : CannotSend s t = inl found in subst (SendCause s t) same none
 send_cause_row s t (Some row) e found is = send_cause_frame s t row row.phase e (found_passes is_queued t.rows row found) is
 
-send_cause_if : (s : Settings) (t : Table) (closed : Option Reason) (b : Bool) (e : SendRefusal) → t.closed ≡ closed → nat_lt (count_by is_sent t.rows) s.window ≡ b → answer_of (when_open sends.Closed closed (if b then with_queued t (find is_queued t.rows) else Err sends.Nothing)) ≡ Err e → SendCause s t e
-send_cause_if s t None true e closed room is = send_cause_row s t (find is_queued t.rows) e refl is
-send_cause_if s t None false e closed room is =
+send_cause_if : (s : Settings) (t : Table) (closed : Option Reason) (b : Bool) (e : SendRefusal) → IsBounded s t → t.closed ≡ closed → nat_lt (count_by is_sent t.rows) s.window ≡ b → answer_of (when_open sends.Closed closed (if b then with_queued t (find is_queued t.rows) else Err sends.Nothing)) ≡ Err e → SendCause s t e
+send_cause_if s t None true e bounds closed room is = send_cause_row s t (find is_queued t.rows) e refl is
+send_cause_if s t None false e bounds closed room is =
     let same : sends.Nothing ≡ e = cc in
-    let full : s.window ≤ count_by is_sent t.rows = grind (arith, nat_tests) in
-    let none : CannotSend s t = inr full in subst (SendCause s t) same none
-send_cause_if s t (Some reason) b e closed room is = let same : sends.Closed reason ≡ e = cc in subst (SendCause s t) same closed
+    let least : s.window ≤ count_by is_sent t.rows = grind (arith, nat_tests) in
+    let most = bounds.sent in
+    let none : CannotSend s t = inr (omega arith) in subst (SendCause s t) same none
+send_cause_if s t (Some reason) b e bounds closed room is = let same : sends.Closed reason ≡ e = cc in subst (SendCause s t) same closed
 
-pub send_cause : (s : Settings) (t : Table) (e : SendRefusal) → answer_of (take_send s t) ≡ Err e → SendCause s t e
-send_cause s t e is = send_cause_if s t t.closed (nat_lt (count_by is_sent t.rows) s.window) e refl refl is
+pub send_cause : (s : Settings) (t : Table) (e : SendRefusal) → IsBounded s t → answer_of (take_send s t) ≡ Err e → SendCause s t e
+send_cause s t e bounds is = send_cause_if s t t.closed (nat_lt (count_by is_sent t.rows) s.window) e bounds refl refl is
 
 -- ---- Frame
 

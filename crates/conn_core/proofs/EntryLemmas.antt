@@ -46,9 +46,9 @@ late_number t bytes reference None = tt
 late_number t bytes reference (Some r) = tt
 
 numbered : (c : Connection) (t : Table) {e : Entry} {u : Table} → Taken c t e u → NumberedAt t e.event e.answer
-numbered c t (asking actor now opens) = asked_number c.settings t actor now _
+numbered c t (asking actor now opens few) = asked_number c.settings t actor now _
 numbered c t (submitting q frame reference rest drawn) = refl
-numbered c t (sending actor row frame opens found is) = tt
+numbered c t (sending actor row frame opens few found is) = tt
 numbered c t (unread actor bytes why opens reads) = refl
 numbered c t (fitting actor bytes reading row opens reads found) = tt
 numbered c t (arriving actor bytes reading o opens reads found late) = late_number t bytes (c.wire.reference_of bytes) o
@@ -75,9 +75,9 @@ row_own c xs t actor id row found all =
     let handed : HandedIn xs actor row.id = (h.request, h.actor ∙ own) in subst (HandedIn xs actor) mine handed
 
 owned : (c : Connection) (xs : List Entry) (t : Table) {e : Entry} {u : Table} → Taken c t e u → All (IsRowOf c xs) t.rows → OwnAt xs t e.actor e.event
-owned c xs t (asking actor now opens) all = tt
+owned c xs t (asking actor now opens few) all = tt
 owned c xs t (submitting q frame reference rest drawn) all = drawn.held
-owned c xs t (sending actor row frame opens found is) all = tt
+owned c xs t (sending actor row frame opens few found is) all = tt
 owned c xs t (unread actor bytes why opens reads) all = tt
 owned c xs t (fitting actor bytes reading row opens reads found) all = tt
 owned c xs t (arriving actor bytes reading o opens reads found late) all = tt
@@ -116,9 +116,9 @@ row_reply c xs t bytes reading row reads found all =
     }
 
 replied : (c : Connection) (xs : List Entry) (t : Table) {e : Entry} {u : Table} → Taken c t e u → All (IsRowOf c xs) t.rows → RepliesAt c xs e.event e.answer
-replied c xs t (asking actor now opens) all = tt
+replied c xs t (asking actor now opens few) all = tt
 replied c xs t (submitting q frame reference rest drawn) all = tt
-replied c xs t (sending actor row frame opens found is) all = tt
+replied c xs t (sending actor row frame opens few found is) all = tt
 replied c xs t (unread actor bytes why opens reads) all = tt
 replied c xs t (fitting actor bytes reading row opens reads found) all = row_reply c xs t bytes reading row reads found all
 replied c xs t (arriving actor bytes reading o opens reads found late) all = late_reply c xs t bytes (c.wire.reference_of bytes) o
@@ -130,11 +130,15 @@ replied c xs t (shutting actor opens) all = tt
 
 -- ---- what else it says
 
+-- the frame can be read, with the reference
+abbrev ReadsWith : Connection → List ℕ → ℕ → Type 0
+ReadsWith c bytes reference = (reading : Reading) × (c.wire.reading_of bytes ≡ Ok reading) × (c.wire.reference_of bytes ≡ reference)
+
 abbrev SaysAt : Connection → List Entry → Table → ℕ → Event → Answer → Type 0
 SaysAt c xs t actor (AskLease now) (answers.Waiting lease place) = place ≡ length t.waiting
 SaysAt c xs t actor TakeSend (answers.Sent id) = (sending : Sending) × (sending.id ≡ id) × IsSending c xs sending
-SaysAt c xs t actor (Frame bytes) (answers.Late reference) = c.wire.reference_of bytes ≡ reference
-SaysAt c xs t actor (Frame bytes) (answers.Stray reference) = c.wire.reference_of bytes ≡ reference
+SaysAt c xs t actor (Frame bytes) (answers.Late reference) = ReadsWith c bytes reference
+SaysAt c xs t actor (Frame bytes) (answers.Stray reference) = ReadsWith c bytes reference
 SaysAt c xs t actor (Frame bytes) (answers.Undecodable index why) = c.wire.reading_of bytes ≡ Err why
 SaysAt c xs t actor (Collect id) (answers.Collected kind) = (outcome : Outcome) × (kind ≡ outcome.kind) × IsCollected c xs actor id outcome
 SaysAt c xs t actor _ _ = Unit {0}
@@ -143,17 +147,17 @@ asked_says : (c : Connection) (xs : List Entry) (t : Table) (actor now : ℕ) (b
 asked_says c xs t actor now true = tt
 asked_says c xs t actor now false = refl
 
-late_says : (c : Connection) (xs : List Entry) (t : Table) (actor : ℕ) (bytes : List ℕ) (o : Option ℕ) → SaysAt c xs t actor (Frame bytes) (frame_answer (without_row t (c.wire.reference_of bytes) o).1)
-late_says c xs t actor bytes None = refl
-late_says c xs t actor bytes (Some r) = refl
+late_says : (c : Connection) (xs : List Entry) (t : Table) (actor : ℕ) (bytes : List ℕ) (reading : Reading) (o : Option ℕ) → c.wire.reading_of bytes ≡ Ok reading → SaysAt c xs t actor (Frame bytes) (frame_answer (without_row t (c.wire.reference_of bytes) o).1)
+late_says c xs t actor bytes reading None reads = (reading, reads, refl)
+late_says c xs t actor bytes reading (Some r) reads = (reading, reads, refl)
 
 says : (c : Connection) (xs : List Entry) (t : Table) {e : Entry} {u : Table} → Taken c t e u → All (IsRowOf c xs) t.rows → SaysAt c xs t e.actor e.event e.answer
-says c xs t (asking actor now opens) all = asked_says c xs t actor now _
+says c xs t (asking actor now opens few) all = asked_says c xs t actor now _
 says c xs t (submitting q frame reference rest drawn) all = tt
-says c xs t (sending actor row frame opens found is) all = (_, refl, row_sending c xs row frame (all_found (IsRowOf c xs) is_queued t.rows row found all) is)
+says c xs t (sending actor row frame opens few found is) all = (_, refl, row_sending c xs row frame (all_found (IsRowOf c xs) is_queued t.rows row found all) is)
 says c xs t (unread actor bytes why opens reads) all = reads
 says c xs t (fitting actor bytes reading row opens reads found) all = tt
-says c xs t (arriving actor bytes reading o opens reads found late) all = late_says c xs t actor bytes o
+says c xs t (arriving actor bytes reading o opens reads found late) all = late_says c xs t actor bytes reading o reads
 says c xs t (unsent actor id row frame found is) all = tt
 says c xs t (unanswered actor id row found is) all = tt
 says c xs t (collecting actor id row outcome found is) all =
@@ -186,8 +190,12 @@ walked_entries c xs walked steps = record {
   own_cancelled = λ k actor id answer stands. owned c (take k xs) (table_of c (take k xs)) (taken_at c xs steps k _ stands) (walked_rows c (walked_take c k walked)).requests;
   own_collected = λ k actor id answer stands. owned c (take k xs) (table_of c (take k xs)) (taken_at c xs steps k _ stands) (walked_rows c (walked_take c k walked)).requests;
   replies = λ k actor bytes id kind stands. replied c (take k xs) (table_of c (take k xs)) (taken_at c xs steps k _ stands) (walked_rows c (walked_take c k walked)).requests;
-  late = λ k actor bytes reference stands. says c (take k xs) (table_of c (take k xs)) (taken_at c xs steps k _ stands) (walked_rows c (walked_take c k walked)).requests;
-  stray = λ k actor bytes reference stands. says c (take k xs) (table_of c (take k xs)) (taken_at c xs steps k _ stands) (walked_rows c (walked_take c k walked)).requests;
+  late = λ k actor bytes reference stands.
+      let is = says c (take k xs) (table_of c (take k xs)) (taken_at c xs steps k _ stands) (walked_rows c (walked_take c k walked)).requests in
+      record { actor = actor; bytes = bytes; reading = is.0; stands = stands; reads = is.1; refers = is.2 };
+  stray = λ k actor bytes reference stands.
+      let is = says c (take k xs) (table_of c (take k xs)) (taken_at c xs steps k _ stands) (walked_rows c (walked_take c k walked)).requests in
+      record { actor = actor; bytes = bytes; reading = is.0; stands = stands; reads = is.1; refers = is.2 };
   unread = λ k actor bytes index why stands. says c (take k xs) (table_of c (take k xs)) (taken_at c xs steps k _ stands) (walked_rows c (walked_take c k walked)).requests;
 }
 

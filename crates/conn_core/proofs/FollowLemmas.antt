@@ -100,13 +100,13 @@ late_follows c t actor bytes None = quiet c.settings t _ _ refl refl refl refl r
 late_follows c t actor bytes (Some r) = quiet c.settings t _ _ refl refl refl refl refl refl refl
 
 taken_follows : (c : Connection) (t : Table) {e : Entry} {u : Table} → Taken c t e u → Follows c.settings t e u
-taken_follows c t (asking actor now opens) =
+taken_follows c t (asking actor now opens few) =
     let s = c.settings in
     let at = at_moment now t in
     let test = nat_lt (length t.held) s.share && (length t.waiting == 0) in
     quiet s t _ _ refl (asked_clock s at actor test) (asked_leases s at actor test) (asked_closed s at actor test) (asked_frames s at actor test) (asked_requests s at actor test) (asked_numbers s at actor test)
 taken_follows c t (submitting q frame reference rest drawn) = quiet c.settings t _ _ refl refl refl refl refl refl refl
-taken_follows c t (sending actor row frame opens found is) = quiet c.settings t _ _ refl refl refl refl refl refl refl
+taken_follows c t (sending actor row frame opens few found is) = quiet c.settings t _ _ refl refl refl refl refl refl refl
 taken_follows c t (unread actor bytes why opens reads) = closes_with c.settings t _ _ (reasons.Undecodable t.frames_taken why) refl opens refl refl refl refl refl refl
 taken_follows c t (fitting actor bytes reading row opens reads found) = quiet c.settings t _ _ refl refl refl refl refl refl refl
 taken_follows c t (arriving actor bytes reading o opens reads found late) = late_follows c t actor bytes o

@@ -6,7 +6,7 @@ use Rattle.std.proofs.lemmas.Bool.{and_parts}
 use Rattle.std.proofs.lemmas.Bool.Decides.{nat_tests}
 use Rattle.std.proofs.lemmas.List.Elements.{All-weaker}
 use Rattle.node_tree.specs.declared.readings.Reading.{Reading}
-use Rattle.wire_frames.specs.WireMeaning.{HasValuesFor, IsReplyKind, IsReplyWith, WireMeaning}
+use Rattle.wire_frames.specs.WireMeaning.{HasValuesFor, IsReplyOutcome, IsReplyWith, WireMeaning}
 use Rattle.wire_frames.specs.declared.asks.Ask.{Ask}
 use Rattle.wire_frames.specs.declared.ends.EndKind.{EndKind}
 use Rattle.wire_frames.specs.declared.ends.EndKind.TheVariants as kinds
@@ -43,7 +43,7 @@ abbrev pub FramesFit : WireMeaning → Type 0
 FramesFit wire = (ask : Ask) (reference : ℕ) (frame : List ℕ) → 0 < reference → reference < 2 ^ 16 → IsTrue (wire.admits ask) → wire.frame_of ask reference ≡ Ok frame → length frame ≤ wire.size ask
 
 taken_carried : (c : Connection) (n : ℕ) (room : Capacities) (t : Table) {e : Entry} {u : Table} → Taken c t e u → FramesFit c.wire → IsSettings c.settings → IsRoomy c.settings n room t → IsAdmitted c.wire e.event → IsCarriedBy c e.event e.answer
-taken_carried c n room t (asking actor now opens) fits settings roomy admitted = tt
+taken_carried c n room t (asking actor now opens few) fits settings roomy admitted = tt
 taken_carried c n room t (submitting q frame reference rest drawn) fits settings roomy admitted =
     let some = settings.references.0 in
     let most = settings.references.1 in
@@ -54,7 +54,7 @@ taken_carried c n room t (submitting q frame reference rest drawn) fits settings
     let long = fits q.ask reference frame above below admitted.0 drawn.framed in
     let within = drawn.within in
     record { in_range = (omega arith, let high = next.1 in omega arith); framed = drawn.framed; within = omega arith }
-taken_carried c n room t (sending actor row frame opens found is) fits settings roomy admitted = tt
+taken_carried c n room t (sending actor row frame opens few found is) fits settings roomy admitted = tt
 taken_carried c n room t (unread actor bytes why opens reads) fits settings roomy admitted = tt
 taken_carried c n room t (fitting actor bytes reading row opens reads found) fits settings roomy admitted = tt
 taken_carried c n room t (arriving actor bytes reading o opens reads found late) fits settings roomy admitted = tt
@@ -114,7 +114,7 @@ sending_carried c journal (Err refusal) carried h = tt
 
 -- what the law of a wire says of its fits
 abbrev pub RepliesFit : WireMeaning → Type 0
-RepliesFit wire = (ask : Ask) (reading : Reading) → IsTrue (wire.admits ask) → IsReplyKind ask (wire.fit ask reading)
+RepliesFit wire = (ask : Ask) (reading : Reading) → IsTrue (wire.admits ask) → IsReplyOutcome ask (wire.fit ask reading)
 
 reply_values : (ask : Ask) (kind : EndKind) (values : List (List PlcValue)) → IsReplyWith ask kind values → HasValuesFor ask (record { kind = kind; values = values })
 reply_values ask kinds.Done values is = elim is [ inl none ↦ inl none | inr all ↦ inr (refl, all) ]

@@ -2,7 +2,7 @@
 use Rattle.std.proofs.Common.{◌≡◌, ℕ, ◌+◌, ◌<◌, ◌≤◌, ◌^◌, Bool, true, false, length, refl, sym, ap, ◌∙◌, subst, arith, length-append, vec_len}
 use Rattle.std.specs.Vec.{vec_capacity}
 use Rattle.std.specs.VecDeque.{deque_capacity}
-use Rattle.conn_core.specs.Journals.{settled, turn_of}
+use Rattle.conn_core.specs.Journals.{after_turn, turn_of}
 use Rattle.conn_core.specs.Rooms.{CanTurn, Capacities, IsKept, IsRoomy, IsUnderWay, Turns, capacities_of, lists_of}
 use Rattle.conn_core.specs.Tables.{IsSettings, Table, is_open}
 use Rattle.conn_core.specs.declared.entries.Entry.{Entry}
@@ -33,11 +33,11 @@ turned_kept s k m e turns a b c can =
     let old : n ≡ length k.journal.items = k.journal.ok.0 in
     let new = m.journal.ok.0 in
     let left = turn_room s n (capacities_of k) t e can.under_way can.after in
-    let turn : settled s (n + 1) t ≡ lists_of m.table = ap (λ i. settled s (i + 1) t) old ∙ sym turns.table in
+    let turn : after_turn s (n + 1) t ≡ lists_of m.table = ap (λ i. after_turn s (i + 1) t) old ∙ sym turns.table in
     let more : length m.journal.items ≡ length k.journal.items + length (turn_of s (length k.journal.items + 1) t e) = ap length turns.journal ∙ length-append k.journal.items (turn_of s (length k.journal.items + 1) t e) in
     let turned : length (turn_of s (length k.journal.items + 1) t e) ≡ length (turn_of s (n + 1) t e) = sym (ap (λ i. length (turn_of s (i + 1) t e)) old) in
     let len : n + length (turn_of s (n + 1) t e) ≡ vec_len m.journal = omega arith in
-    let all = moved s (n + length (turn_of s (n + 1) t e)) (vec_len m.journal) (capacities_of k) (capacities_of m) (settled s (n + 1) t) (lists_of m.table) len turn a b c left.0 left.1 in
+    let all = moved s (n + length (turn_of s (n + 1) t e)) (vec_len m.journal) (capacities_of k) (capacities_of m) (after_turn s (n + 1) t) (lists_of m.table) len turn a b c left.0 left.1 in
     record { room = all.0; under_way = all.1 }
 
 pub can_on : (s : Settings) (n : ℕ) (room more : Capacities) (t u : Table) → u ≡ t → room.journal ≤ more.journal → room.free ≤ more.free → room.quarantined ≤ more.quarantined → CanTurn s n room t → CanTurn s n more u

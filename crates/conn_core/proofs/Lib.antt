@@ -1,4 +1,5 @@
 pub mod AllLemmas
+pub mod BoundLemmas
 pub mod CauseLemmas
 pub mod EndLemmas
 pub mod EntryLemmas
@@ -12,6 +13,7 @@ pub mod FrontLemmas
 pub mod HandedLemmas
 pub mod KeptLemmas
 pub mod OpeningLemmas
+pub mod OrderLemmas
 pub mod PartLemmas
 pub mod PlaceLemmas
 pub mod RefusalLemmas

@@ -4,7 +4,7 @@ use Rattle.std.specs.Prelude.{IfOk, OnErr, OnOk}
 use Rattle.wire_frames.specs.WireMeaning.{WireMeaning}
 use Rattle.wire_frames.specs.declared.ends.Reason.{Reason}
 use Rattle.wire_frames.specs.declared.ends.Reason.TheVariants as reasons
-use Rattle.conn_core.specs.Journals.{AreAdmitted, AreCarried, IsAdmitted, IsCarriedBy, Legal, opened, turned, after_entries, after_entry, after_step, is_worn, settled, settled_if, table_of, turn_if, turn_of, wears, worn_entry}
+use Rattle.conn_core.specs.Journals.{AreAdmitted, AreCarried, IsAdmitted, IsCarriedBy, Legal, opened, turned, after_entries, after_entry, after_step, is_worn, after_turn, after_turn_if, table_of, turn_if, turn_of, wears, worn_entry}
 use Rattle.conn_core.specs.Rooms.{IsKept, Stays, Turns, TurnsAs, capacities_of, lists_of}
 use Rattle.conn_core.specs.KeptStates.{IsState}
 use Rattle.conn_core.specs.States.{GoesOn, Grows, Key, State, connection_of, grown}
@@ -44,14 +44,14 @@ worn_step c t actor h =
     let none : t.closed ≡ None = none_where_open t.closed t refl h in
     ap (λ closed. after_step t (taken (λ _. answers.Closed) (when_open {A = Table × Unit {0}} (λ stands. stands) closed (Ok (closed_by reasons.Worn t, tt))))) none
 
-turn_if_table : (c : Connection) (n : ℕ) (t u : Table) (e : Entry) (b : Bool) → wears c.settings n u ≡ b → step c t e.actor e.event ≡ Some (u, e.answer) → after_entries c t (turn_if b e) ≡ settled_if b u
+turn_if_table : (c : Connection) (n : ℕ) (t u : Table) (e : Entry) (b : Bool) → wears c.settings n u ≡ b → step c t e.actor e.event ≡ Some (u, e.answer) → after_entries c t (turn_if b e) ≡ after_turn_if b u
 turn_if_table c n t u e true worn taken =
     let first : after_entry c t e ≡ u = ap (after_step t) taken in
     ap (λ v. after_entry c v (worn_entry e.actor)) first ∙ worn_step c u e.actor (open_where_worn c.settings n u worn)
 turn_if_table c n t u e false worn taken = ap (after_step t) taken
 
 -- the table after a turn
-pub turn_table : (c : Connection) (journal : List Entry) (n : ℕ) (u : Table) (e : Entry) → step c (table_of c journal) e.actor e.event ≡ Some (u, e.answer) → table_of c (journal ++ turn_of c.settings n u e) ≡ settled c.settings n u
+pub turn_table : (c : Connection) (journal : List Entry) (n : ℕ) (u : Table) (e : Entry) → step c (table_of c journal) e.actor e.event ≡ Some (u, e.answer) → table_of c (journal ++ turn_of c.settings n u e) ≡ after_turn c.settings n u
 turn_table c journal n u e taken =
     table_of-append c journal (turn_of c.settings n u e) ∙ turn_if_table c n (table_of c journal) u e (wears c.settings n u) refl taken
 

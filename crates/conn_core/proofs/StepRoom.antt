@@ -6,7 +6,7 @@ use Rattle.std.proofs.lemmas.Bool.{and_parts}
 use Rattle.std.proofs.lemmas.List.Sums.{sum_by-append}
 use Rattle.wire_frames.specs.declared.ends.Reason.{Reason}
 use Rattle.wire_frames.specs.declared.ends.Reason.TheVariants as reasons
-use Rattle.conn_core.specs.Journals.{settled_if, turn_if, turn_of, settled, wears}
+use Rattle.conn_core.specs.Journals.{after_turn_if, turn_if, turn_of, after_turn, wears}
 use Rattle.conn_core.specs.Rooms.{Capacities, IsRoomy, IsUnderWay, closes_of, entries_of, outside}
 use Rattle.conn_core.specs.Steps.{closed_by}
 use Rattle.conn_core.specs.Tables.{Table, is_open, is_queued, is_sent, lost_row, references_of}
@@ -74,7 +74,7 @@ not_worn s n t h o e = let same : (n == s.journal) ≡ true = grind (arith, nat_
     let worn : wears s n t ≡ true = ap (λ b. b && is_open t) same ∙ o in cc
 
 turn_room_if : (s : Settings) (n : ℕ) (room : Capacities) (t : Table) (e : Entry) (b : Bool) → wears s (n + 1) t ≡ b → IsUnderWay s n t → IsRoomy s (n + 1) room t
-    → IsRoomy s (n + length (turn_if b e)) room (settled_if b t) × IsUnderWay s (n + length (turn_if b e)) (settled_if b t)
+    → IsRoomy s (n + length (turn_if b e)) room (after_turn_if b t) × IsUnderWay s (n + length (turn_if b e)) (after_turn_if b t)
 turn_room_if s n room t e true worn way h =
     let one = closes_where_worn s (n + 1) t worn in
     let end = worn_limit s (n + 1) t worn in
@@ -83,5 +83,5 @@ turn_room_if s n room t e false worn way h =
     (h, λ o. let other = not_worn s (n + 1) t worn o in let below = way o in omega arith)
 
 pub turn_room : (s : Settings) (n : ℕ) (room : Capacities) (t : Table) (e : Entry) → IsUnderWay s n t → IsRoomy s (n + 1) room t
-    → IsRoomy s (n + length (turn_of s (n + 1) t e)) room (settled s (n + 1) t) × IsUnderWay s (n + length (turn_of s (n + 1) t e)) (settled s (n + 1) t)
+    → IsRoomy s (n + length (turn_of s (n + 1) t e)) room (after_turn s (n + 1) t) × IsUnderWay s (n + length (turn_of s (n + 1) t e)) (after_turn s (n + 1) t)
 turn_room s n room t e way h = turn_room_if s n room t e (wears s (n + 1) t) refl way h

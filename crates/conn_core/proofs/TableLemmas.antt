@@ -1,24 +1,31 @@
 -- The table after a legal journal is as the journal's places say.
-use Rattle.std.proofs.Common.{◌≡◌, ◌<◌, arith, false, List, Option, Some, None, length, refl, sym, ap, ◌∙◌}
+use Rattle.std.proofs.Common.{◌≡◌, ◌<◌, arith, false, List, [], ◌∷◌, ◌++◌, Option, Some, None, length, refl, sym, ap, ◌∙◌, subst}
 use Rattle.std.specs.Prelude.{IfSome, is_some}
 use Rattle.wire_frames.specs.declared.ends.Reason.{Reason}
 use Rattle.conn_core.specs.Entries.{closing_reason}
 use Rattle.conn_core.specs.Journals.{Legal, table_of}
 use Rattle.conn_core.specs.KeptStates.{IsState}
 use Rattle.conn_core.specs.Rooms.{lists_of}
-use Rattle.conn_core.specs.TableLaw.{ClosesWith, NoneCloses, TableLaw}
+use Rattle.conn_core.specs.TableLaw.{ClosesWith, IsBounded, NoneCloses, TableLaw}
 use Rattle.conn_core.specs.Tables.{Connection, is_open}
 use Rattle.conn_core.specs.declared.entries.Entry.{Entry}
 use Rattle.conn_core.specs.declared.kept.Kept.{Kept}
+use Rattle.conn_core.proofs.BoundLemmas.{bounded_on, opening_bounded}
 use Rattle.conn_core.proofs.RowLemmas.{walked_rows}
-use Rattle.conn_core.proofs.WalkLemmas.{legal_walked, walked_after}
+use Rattle.conn_core.proofs.TakenSteps.{step_taken}
+use Rattle.conn_core.proofs.WalkLemmas.{Walked, begun, stepped, legal_walked, table_of-empty, table_on, walked_after}
+
+walked_bounded : (c : Connection) {xs : List Entry} → Walked c xs → IsBounded c.settings (table_of c xs)
+walked_bounded c begun = subst (IsBounded c.settings) (sym (table_of-empty c)) (opening_bounded c.settings)
+walked_bounded c (stepped xs e t walked taken) =
+    subst (IsBounded c.settings) (sym (table_on c xs e t taken)) (bounded_on c (table_of c xs) (step_taken c (table_of c xs) e.actor e.event t e.answer taken) (walked_bounded c walked))
 
 -- what the table after a legal journal and the journal's places say alike
 pub legal_law : (c : Connection) (journal : List Entry) → Legal c journal → TableLaw c journal
 legal_law c journal legal =
     let walked = legal_walked c legal in
     let after = walked_after c walked in
-    record { clock = after.clock; leases = after.leases; closed = after.closed; frames = after.frames; requests = after.requests; asks = after.asks; rows = walked_rows c walked }
+    record { clock = after.clock; leases = after.leases; closed = after.closed; frames = after.frames; requests = after.requests; asks = after.asks; rows = walked_rows c walked; bounds = walked_bounded c walked }
 
 -- why a closed table was closed, and that nothing closed an open one
 pub closing_cause : (c : Connection) (journal : List Entry) (closed : Option Reason) → TableLaw c journal → (table_of c journal).closed ≡ closed → IfSome closed (λ reason. ClosesWith journal reason)

@@ -1,5 +1,5 @@
 -- What a step that isn't refused found, and the table and the entry that it gives.
-use Rattle.std.proofs.Common.{◌≡◌, ℕ, ◌+◌, ◌≤◌, Bool, true, false, List, [], ◌∷◌, ◌++◌, Option, Some, None, Result, Ok, Err, length, refl, sym, ◌∙◌, subst, arith, nat_lt, count_by}
+use Rattle.std.proofs.Common.{◌≡◌, ℕ, ◌+◌, ◌<◌, ◌≤◌, Bool, true, false, List, [], ◌∷◌, ◌++◌, Option, Some, None, Result, Ok, Err, length, refl, sym, ◌∙◌, subst, arith, nat_lt, count_by}
 use Rattle.std.specs.Prelude.{if◌then◌else◌}
 use Rattle.std.specs.List.{find}
 use Rattle.std.proofs.lemmas.Bool.Decides.{nat_tests}
@@ -37,16 +37,17 @@ use Rattle.conn_core.proofs.RefusalLemmas.{opened_ok, tested_ok}
 pub record IsDrawn (wire : WireMeaning) (t : Table) (q : Request) (frame : List ℕ) (reference : ℕ) (rest : List ℕ) : Type 0 where
   pub opens : t.closed ≡ None
   pub held : holds q.actor q.lease t ≡ true
+  pub few : length t.rows < rows_limit
   pub free : t.free ≡ reference ∷ rest
   pub framed : wire.frame_of q.ask reference ≡ Ok frame
   pub within : wire.size q.ask ≤ wire.limit
 
 pub data Taken (c : Connection) (t : Table) : Entry → Table → Type 0 where
-  asking : (actor now : ℕ) → t.closed ≡ None
+  asking : (actor now : ℕ) → t.closed ≡ None → length t.waiting < waiters_limit
       → Taken c t (record { actor = actor; event = AskLease now; answer = asked_answer (asked c.settings (at_moment now t) actor).1 }) (asked c.settings (at_moment now t) actor).0
   submitting : (q : Request) (frame : List ℕ) (reference : ℕ) (rest : List ℕ) → IsDrawn c.wire t q frame reference rest
       → Taken c t (record { actor = q.actor; event = Submit q.lease q.ask q.timeout q.moment; answer = answers.Accepted (t.requests_drawn + 1) reference frame }) (started t q frame reference rest).0
-  sending : (actor : ℕ) (row : Row) (frame : List ℕ) → t.closed ≡ None → find is_queued t.rows ≡ Some row → row.phase ≡ Queued frame
+  sending : (actor : ℕ) (row : Row) (frame : List ℕ) → t.closed ≡ None → count_by is_sent t.rows < c.settings.window → find is_queued t.rows ≡ Some row → row.phase ≡ Queued frame
       → Taken c t (record { actor = actor; event = TakeSend; answer = answers.Sent row.id }) (record t { rows = change_first is_queued sent_row t.rows })
   unread : (actor : ℕ) (bytes : List ℕ) (why : FrameWhy) → t.closed ≡ None → c.wire.reading_of bytes ≡ Err why
       → Taken c t (record { actor = actor; event = Frame bytes; answer = answers.Undecodable t.frames_taken why }) (refused_frame t why).0
@@ -71,14 +72,19 @@ ok_is a b h = cc
 some_is : {A : Type 0} (a b : A) → Some a ≡ Some b → a ≡ b
 some_is a b h = cc
 
+-- a number is below another where the test says so
+below_is : (n m : ℕ) → nat_lt n m ≡ true → n < m
+below_is n m test = grind (arith, nat_tests)
+
 -- ---- a lease is asked
 
 ask_taken : (c : Connection) (t : Table) (actor now : ℕ) (p : Table × LeaseAnswer) → ask_lease c.settings t actor now ≡ Ok p → Taken c t (record { actor = actor; event = AskLease now; answer = asked_answer p.1 }) p.0
 ask_taken c t actor now p h =
     let w : Result (Table × LeaseAnswer) _ = Ok (asked c.settings (at_moment now t) actor) in
     let opens = opened_ok asks.Closed t.closed (if nat_lt (length t.waiting) waiters_limit then w else Err asks.QueueFull) p h in
-    let is = ok_is (asked c.settings (at_moment now t) actor) p (tested_ok (nat_lt (length t.waiting) waiters_limit) w asks.QueueFull p opens.1).1 in
-    subst (λ (r : Table × LeaseAnswer). Taken c t (record { actor = actor; event = AskLease now; answer = asked_answer r.1 }) r.0) is (asking actor now opens.0)
+    let passed = tested_ok (nat_lt (length t.waiting) waiters_limit) w asks.QueueFull p opens.1 in
+    let room : length t.waiting < waiters_limit = below_is _ _ passed.0 in
+    subst (λ (r : Table × LeaseAnswer). Taken c t (record { actor = actor; event = AskLease now; answer = asked_answer r.1 }) r.0) (ok_is (asked c.settings (at_moment now t) actor) p passed.1) (asking actor now opens.0 room)
 
 -- ---- a request is handed in
 
@@ -98,6 +104,7 @@ framed_within wire ask frame (Ok written) is = framed_if wire ask frame written 
 pub record IsPrepared (wire : WireMeaning) (t : Table) (q : Request) (frame : List ℕ) : Type 0 where
   pub opens : t.closed ≡ None
   pub held : holds q.actor q.lease t ≡ true
+  pub few : length t.rows < rows_limit
   pub framed : wire.frame_of q.ask (next_reference t.free) ≡ Ok frame
   pub within : wire.size q.ask ≤ wire.limit
 
@@ -113,6 +120,7 @@ prepared_is wire t q frame is =
     record {
       opens = first.0;
       held = second.0;
+      few = below_is _ _ third.0;
       framed = subst (λ (reference : ℕ). wire.frame_of q.ask reference ≡ Ok frame) (sym same) framed.0;
       within = framed.1;
     }
@@ -124,6 +132,7 @@ drawn_taken c t q frame (reference ∷ rest) p free found h =
     let drawn : IsDrawn c.wire t q frame reference rest = record {
       opens = found.opens;
       held = found.held;
+      few = found.few;
       free = free;
       framed = subst (λ (ns : List ℕ). c.wire.frame_of q.ask (next_reference ns) ≡ Ok frame) free found.framed;
       within = found.within;
@@ -141,23 +150,24 @@ submit_taken c t q p h = framed_taken c t q (prepared c.wire t q) p refl (sym (s
 
 -- ---- it is sent, cancelled or collected
 
-sent_taken : (c : Connection) (t : Table) (actor : ℕ) (row : Row) (phase : Phase) (p : Table × Sending) → t.closed ≡ None → find is_queued t.rows ≡ Some row → row.phase ≡ phase → with_queued_frame t row phase ≡ Ok p
+sent_taken : (c : Connection) (t : Table) (actor : ℕ) (row : Row) (phase : Phase) (p : Table × Sending) → t.closed ≡ None → count_by is_sent t.rows < c.settings.window → find is_queued t.rows ≡ Some row → row.phase ≡ phase → with_queued_frame t row phase ≡ Ok p
     → Taken c t (record { actor = actor; event = TakeSend; answer = answers.Sent p.1.id }) p.0
-sent_taken c t actor row (Queued frame) p opens found is h =
-    subst (λ (r : Table × Sending). Taken c t (record { actor = actor; event = TakeSend; answer = answers.Sent r.1.id }) r.0) (ok_is _ p h) (sending actor row frame opens found is)
-sent_taken c t actor row Sent p opens found is h = absurd (cc)
-sent_taken c t actor row (Ended outcome) p opens found is h = absurd (cc)
+sent_taken c t actor row (Queued frame) p opens few found is h =
+    subst (λ (r : Table × Sending). Taken c t (record { actor = actor; event = TakeSend; answer = answers.Sent r.1.id }) r.0) (ok_is _ p h) (sending actor row frame opens few found is)
+sent_taken c t actor row Sent p opens few found is h = absurd (cc)
+sent_taken c t actor row (Ended outcome) p opens few found is h = absurd (cc)
 
-queued_taken : (c : Connection) (t : Table) (actor : ℕ) (o : Option Row) (p : Table × Sending) → t.closed ≡ None → find is_queued t.rows ≡ o → with_queued t o ≡ Ok p → Taken c t (record { actor = actor; event = TakeSend; answer = answers.Sent p.1.id }) p.0
-queued_taken c t actor None p opens found h = absurd (cc)
-queued_taken c t actor (Some row) p opens found h = sent_taken c t actor row row.phase p opens found refl h
+queued_taken : (c : Connection) (t : Table) (actor : ℕ) (o : Option Row) (p : Table × Sending) → t.closed ≡ None → count_by is_sent t.rows < c.settings.window → find is_queued t.rows ≡ o → with_queued t o ≡ Ok p → Taken c t (record { actor = actor; event = TakeSend; answer = answers.Sent p.1.id }) p.0
+queued_taken c t actor None p opens few found h = absurd (cc)
+queued_taken c t actor (Some row) p opens few found h = sent_taken c t actor row row.phase p opens few found refl h
 
 send_taken : (c : Connection) (t : Table) (actor : ℕ) (p : Table × Sending) → take_send c.settings t ≡ Ok p → Taken c t (record { actor = actor; event = TakeSend; answer = answers.Sent p.1.id }) p.0
 send_taken c t actor p h =
     let w = with_queued t (find is_queued t.rows) in
     let few = nat_lt (count_by is_sent t.rows) c.settings.window in
     let opens = opened_ok sends.Closed t.closed (if few then w else Err sends.Nothing) p h in
-    queued_taken c t actor (find is_queued t.rows) p opens.0 refl (tested_ok few w sends.Nothing p opens.1).1
+    let passed = tested_ok few w sends.Nothing p opens.1 in
+    queued_taken c t actor (find is_queued t.rows) p opens.0 (below_is _ _ passed.0) refl passed.1
 
 cancelled_taken : (c : Connection) (t : Table) (actor id : ℕ) (row : Row) (phase : Phase) (p : Table × Unit {0}) → find (is_row_of actor id) t.rows ≡ Some row → row.phase ≡ phase → cancel_row t actor id row phase ≡ Ok p
     → Taken c t (record { actor = actor; event = Cancel id; answer = answers.Cancelled }) p.0

@@ -12,7 +12,8 @@ use Rattle.conn_core.specs.declared.rows.Phase.TheVariants.{Ended}
 use Rattle.conn_core.specs.declared.rows.Row.{Row}
 use Rattle.conn_core.specs.declared.settings.Settings.{Settings}
 
--- the wire has no frame for the ask under the reference that is next, for this reason at this part of the ask's tree
+-- the wire has no frame for the ask under the reference that is next, 1 where none is free, for this reason at this part of the
+-- ask's tree
 abbrev pub IsUnwritable : WireMeaning → Table → Ask → ℕ → WriteWhy → Type 0
 IsUnwritable wire t ask entry why = wire.frame_of ask (next_reference t.free) ≡ Err (record { entry = entry; why = why })
 
@@ -24,11 +25,11 @@ pub record IsTooLarge (wire : WireMeaning) (ask : Ask) (size limit : ℕ) : Type
 
 -- as many leases as may be are held, or others wait already
 abbrev pub MustWait : Settings → Table → Type 0
-MustWait s t = (s.share ≤ length t.held) ⊎ (t.waiting ≢ [])
+MustWait s t = (length t.held ≡ s.share) ⊎ (t.waiting ≢ [])
 
--- no row is queued, or at least as many rows as the window has are sent and live
+-- no row is queued, or as many rows as the window has are sent and live
 abbrev pub CannotSend : Settings → Table → Type 0
-CannotSend s t = (find is_queued t.rows ≡ None) ⊎ (s.window ≤ count_by is_sent t.rows)
+CannotSend s t = (find is_queued t.rows ≡ None) ⊎ (count_by is_sent t.rows ≡ s.window)
 
 -- no row of the actor has the id
 abbrev pub HasNoRow : Table → ℕ → ℕ → Type 0

@@ -23,21 +23,17 @@ request_deadline {journal} r = deadline_of (clock_of (take (r.place + 1) journal
 abbrev pub lease_stands_after : {journal : List Entry} {id : ℕ} → Connection → Submitted journal id → ℕ → Bool
 lease_stands_after {journal} c r k = list_any (λ held. held.number == r.lease) (held_after c.settings (take k journal))
 
--- what stands at a place ends a request, and how
-pub data EndsAs (c : Connection) (journal : List Entry) (id : ℕ) (r : Submitted journal id) (k : ℕ) : EndKind → Type 0 where
-  -- a frame that is answered by its end
-  answered : (actor : ℕ) (bytes : List ℕ) (kind : EndKind)
-      → Stands journal k actor (events.Frame bytes) (answers.Ended id kind)
-      → EndsAs c journal id r k kind
+-- what stands at a place ends a request without a reply, and how
+pub data EndsUnanswered (c : Connection) (journal : List Entry) (id : ℕ) (r : Submitted journal id) (k : ℕ) : EndKind → Type 0 where
   -- its cancellation
   cancelled : (actor : ℕ)
       → Stands journal k actor (events.Cancel id) answers.Cancelled
-      → EndsAs c journal id r k kinds.Cancelled
+      → EndsUnanswered c journal id r k kinds.Cancelled
   -- a tick at or past its deadline
   expired : (actor now : ℕ) (answer : Answer)
       → Stands journal k actor (events.Tick now) answer
       → request_deadline r ≤ now
-      → EndsAs c journal id r k kinds.Expired
+      → EndsUnanswered c journal id r k kinds.Expired
   -- an entry that takes its lease and doesn't close; where a tick does both, the request has expired
   lease_gone : (e : Entry)
       → slice_get journal k ≡ Some e
@@ -45,12 +41,21 @@ pub data EndsAs (c : Connection) (journal : List Entry) (id : ℕ) (r : Submitte
       → ((now : ℕ) → e.event ≡ events.Tick now → now < request_deadline r)
       → lease_stands_after c r k ≡ true
       → lease_stands_after c r (k + 1) ≡ false
-      → EndsAs c journal id r k kinds.LeaseGone
+      → EndsUnanswered c journal id r k kinds.LeaseGone
   -- an entry that closes
   lost : (e : Entry) (reason : Reason)
       → slice_get journal k ≡ Some e
       → closing_reason e ≡ Some reason
-      → EndsAs c journal id r k (kinds.Lost reason)
+      → EndsUnanswered c journal id r k (kinds.Lost reason)
+
+-- what stands at a place ends a request, and how: a frame that is answered by its end, or one of these
+pub data EndsAs (c : Connection) (journal : List Entry) (id : ℕ) (r : Submitted journal id) (k : ℕ) : EndKind → Type 0 where
+  answered : (actor : ℕ) (bytes : List ℕ) (kind : EndKind)
+      → Stands journal k actor (events.Frame bytes) (answers.Ended id kind)
+      → EndsAs c journal id r k kind
+  unanswered : (kind : EndKind)
+      → EndsUnanswered c journal id r k kind
+      → EndsAs c journal id r k kind
 
 -- the first place after its Submit that ends it
 pub record IsEndPlace (c : Connection) (journal : List Entry) (id : ℕ) (r : Submitted journal id) (k : ℕ) (kind : EndKind) : Type 0 where

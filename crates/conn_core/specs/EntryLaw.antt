@@ -10,7 +10,7 @@ use Rattle.conn_core.specs.Entries.{asks_in, frames_in, requests_in}
 use Rattle.conn_core.specs.Journals.{table_of}
 use Rattle.conn_core.specs.HandedOut.{IsCollected, IsSending}
 use Rattle.conn_core.specs.LeaseLists.{held_after, leases_from, no_leases}
-use Rattle.conn_core.specs.Places.{SentAt, Stands, Submitted}
+use Rattle.conn_core.specs.Places.{FrameComes, SentAt, Stands, Submitted}
 use Rattle.conn_core.specs.Steps.{step}
 use Rattle.conn_core.specs.Tables.{Connection, is_lease_of}
 use Rattle.conn_core.specs.declared.answers.Sending.{Sending}
@@ -79,13 +79,13 @@ pub record EntryLaw (c : Connection) (journal : List Entry) : Type 0 where
   pub replies : (k actor : ℕ) (bytes : List ℕ) (id : ℕ) (kind : EndKind)
       → Stands journal k actor (events.Frame bytes) (answers.Ended id kind)
       → IsReplyTo c (take k journal) id bytes kind
-  -- A late or stray frame has the reference that is told, and an undecodable one can't be read, for the reason that is told.
+  -- A late or stray frame can be read, with the reference that is told, and an undecodable one can't, for the reason that is told.
   pub late : (k actor : ℕ) (bytes : List ℕ) (reference : ℕ)
       → Stands journal k actor (events.Frame bytes) (answers.Late reference)
-      → c.wire.reference_of bytes ≡ reference
+      → FrameComes c journal k reference (answers.Late reference)
   pub stray : (k actor : ℕ) (bytes : List ℕ) (reference : ℕ)
       → Stands journal k actor (events.Frame bytes) (answers.Stray reference)
-      → c.wire.reference_of bytes ≡ reference
+      → FrameComes c journal k reference (answers.Stray reference)
   pub unread : (k actor : ℕ) (bytes : List ℕ) (index : ℕ) (why : FrameWhy)
       → Stands journal k actor (events.Frame bytes) (answers.Undecodable index why)
       → c.wire.reading_of bytes ≡ Err why

@@ -50,12 +50,12 @@ abbrev pub turn_of : Settings → ℕ → Table → Entry → List Entry
 turn_of s entries t e = turn_if (wears s entries t) e
 
 -- the table after such a turn
-abbrev pub settled_if : Bool → Table → Table
-settled_if true t = closed_by reasons.Worn t
-settled_if false t = t
+abbrev pub after_turn_if : Bool → Table → Table
+after_turn_if true t = closed_by reasons.Worn t
+after_turn_if false t = t
 
-abbrev pub settled : Settings → ℕ → Table → Table
-settled s entries t = settled_if (wears s entries t) t
+abbrev pub after_turn : Settings → ℕ → Table → Table
+after_turn s entries t = after_turn_if (wears s entries t) t
 
 -- A journal is legal where it is empty, and where a legal one goes on by an event that isn't refused, with the answer that
 -- the table gives. Where that entry brings the journal to its limit with the table not closed, Close with Worn by the same

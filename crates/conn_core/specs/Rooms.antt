@@ -2,7 +2,7 @@
 use Rattle.std.specs.Prelude.{◌≡◌, ℕ, ◌+◌, ◌*◌, ◌≤◌, ◌<◌, ◌&&◌, nat_le, ◌++◌, true, false, if◌then◌else◌, List, length, Result, Ok, Err, vec_len, sum_by}
 use Rattle.std.specs.Vec.{vec_capacity}
 use Rattle.std.specs.VecDeque.{deque_capacity, deque_len}
-use Rattle.conn_core.specs.Journals.{settled, turn_of}
+use Rattle.conn_core.specs.Journals.{after_turn, turn_of}
 use Rattle.conn_core.specs.Tables.{Table, is_open, rows_limit, waiters_limit}
 use Rattle.conn_core.specs.declared.entries.Entry.{Entry}
 use Rattle.conn_core.specs.declared.kept.Kept.{Kept}
@@ -130,7 +130,7 @@ HasTurnRoom entries room t = entries + 3 * length t.rows + length t.held + lengt
 -- a turn was written down: the entry, with the close by a full journal behind it where it must follow
 pub record Turns (s : Settings) (old : List Entry) (t : Table) (e : Entry) (new : List Entry) (u : Table) : Type 0 where
   pub journal : new ≡ old ++ turn_of s (length old + 1) t e
-  pub table : u ≡ settled s (length old + 1) t
+  pub table : u ≡ after_turn s (length old + 1) t
 
 -- nothing was written down
 pub record Stays (old : List Entry) (t : Table) (new : List Entry) (u : Table) : Type 0 where

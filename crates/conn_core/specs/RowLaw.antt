@@ -1,12 +1,11 @@
 -- What the rows of a legal journal's table are: requests that the journal accepted, and what became of them.
-use Rattle.std.specs.Prelude.{◌≡◌, ◌⊎◌, ℕ, ◌<◌, ◌≤◌, ◌==◌, true, false, List, [], Some, Ok, All}
+use Rattle.std.specs.Prelude.{◌≡◌, ◌⊎◌, ℕ, ◌<◌, ◌≤◌, ◌==◌, true, false, List, [], Some, Ok, All, AllPairs}
 use Rattle.std.specs.List.{list_any, slice_get}
 use Rattle.node_tree.specs.declared.readings.Reading.{Reading}
 use Rattle.wire_frames.specs.declared.ends.EndKind.{EndKind}
-use Rattle.wire_frames.specs.declared.ends.EndKind.TheVariants.{Done, Written, Remote, Mismatch, Cancelled, Expired, LeaseGone, Lost}
+use Rattle.wire_frames.specs.declared.ends.EndKind.TheVariants as kinds
 use Rattle.wire_frames.specs.declared.ends.Outcome.{Outcome}
-use Rattle.conn_core.specs.Ends.{request_deadline}
-use Rattle.conn_core.specs.Entries.{closing_reason}
+use Rattle.conn_core.specs.Ends.{EndsUnanswered, request_deadline}
 use Rattle.conn_core.specs.Places.{SentAt, Stands, Submitted}
 use Rattle.conn_core.specs.Tables.{Connection, Table, is_ended, is_open}
 use Rattle.conn_core.specs.declared.entries.Answer.{Answer}
@@ -32,25 +31,20 @@ pub record IsFitted (c : Connection) (journal : List Entry) (id : ℕ) (r : Subm
   pub sent_at : SentAt journal id sent
   pub after : sent < place
 
--- an end that no reply brings, by the entry behind the request's own that brings it. No step lets a request expire, or takes
--- its lease, yet
-abbrev pub IsUnanswered : {journal : List Entry} {id : ℕ} → Submitted journal id → EndKind → Type 0
-IsUnanswered r Done = ⊥
-IsUnanswered r Written = ⊥
-IsUnanswered r (Remote code) = ⊥
-IsUnanswered r (Mismatch place got) = ⊥
-IsUnanswered {journal} {id} r Cancelled = (k : ℕ) × (r.place < k) × Stands journal k r.actor (events.Cancel id) answers.Cancelled
-IsUnanswered r Expired = ⊥
-IsUnanswered r LeaseGone = ⊥
-IsUnanswered {journal} r (Lost reason) = (k : ℕ) × (e : Entry) × (r.place < k) × (slice_get journal k ≡ Some e) × (closing_reason e ≡ Some reason)
+-- no reply ended the request: what stands at a place behind its own did, and only its actor cancels it
+pub record IsUnanswered (c : Connection) (journal : List Entry) (id : ℕ) (r : Submitted journal id) (kind : EndKind) : Type 0 where
+  pub place : ℕ
+  pub behind : r.place < place
+  pub ends : EndsUnanswered c journal id r place kind
+  pub own : kind ≡ kinds.Cancelled → Stands journal place r.actor (events.Cancel id) answers.Cancelled
 
 -- an outcome without a reply, and so without values
-abbrev pub IsBare : {journal : List Entry} {id : ℕ} → Submitted journal id → Outcome → Type 0
-IsBare r outcome = IsUnanswered r outcome.kind × (outcome.values ≡ [])
+abbrev pub IsBare : {journal : List Entry} {id : ℕ} → Connection → Submitted journal id → Outcome → Type 0
+IsBare {journal} {id} c r outcome = IsUnanswered c journal id r outcome.kind × (outcome.values ≡ [])
 
 -- how a request ended: by a reply, or without one
 abbrev pub IsOutcomeOf : {journal : List Entry} {id : ℕ} → Connection → Submitted journal id → Outcome → Type 0
-IsOutcomeOf {journal} {id} c r outcome = IsFitted c journal id r outcome ⊎ IsBare r outcome
+IsOutcomeOf {journal} {id} c r outcome = IsFitted c journal id r outcome ⊎ IsBare c r outcome
 
 -- what a row's phase says of its request: queued, it has the request's frame; sent, it was sent; ended, it has its outcome
 abbrev pub IsPhaseOf : {journal : List Entry} {id : ℕ} → Connection → Submitted journal id → Phase → Type 0
@@ -85,8 +79,11 @@ abbrev pub WasCollected : List Entry → ℕ → Type 0
 WasCollected journal id = (k : ℕ) × (actor : ℕ) × (answer : Answer) × Stands journal k actor (events.Collect id) answer
 
 pub record RowLaw (c : Connection) (journal : List Entry) (t : Table) : Type 0 where
-  -- Each row is a request that the journal accepted, and each such request has a row until it is collected.
+  -- Each row is a request that the journal accepted. Each such request has a row until it is collected, and none from then on.
   pub requests : All (IsRowOf c journal) t.rows
   pub rows : (id : ℕ) → Submitted journal id → HasRow t id ⊎ WasCollected journal id
+  pub gone : (id : ℕ) → WasCollected journal id → ¬ HasRow t id
+  -- They stand by rising id.
+  pub rising : AllPairs (λ row later. row.id < later.id) t.rows
   -- Once the table is closed each row has ended.
   pub ended : AreEndedIfClosed t

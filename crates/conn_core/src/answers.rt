@@ -7,7 +7,7 @@ use node_tree::{ByteList, WriteWhy};
 use std::alloc::AllocError;
 use wire_frames::{EndKind, FrameWhy, Reason};
 
-/// A lease that is held at once, or a waiter with so many before it.
+/// The number of a lease, from 1, that is held at once, or waited for with so many waiters before.
 #[derive(Clone, Copy, Debug, PartialEq, Eq)]
 pub enum LeaseAnswer {
     Granted { lease: u64 },
@@ -17,12 +17,14 @@ pub enum LeaseAnswer {
 /// Why no lease was asked.
 #[derive(Clone, Copy, Debug, PartialEq, Eq)]
 pub enum AskRefusal {
+    /// The connection is closed, for this reason.
     Closed(Reason),
+    /// As many as may be wait already, 64.
     QueueFull,
     NoMemory,
 }
 
-/// A request that was accepted, and the reference under which it goes out.
+/// A request that was accepted: its id, counted from 1, and the reference under which it goes out.
 #[derive(Clone, Copy, Debug, PartialEq, Eq)]
 pub struct Accepted {
     pub id: u64,
@@ -32,11 +34,17 @@ pub struct Accepted {
 /// Why a request wasn't accepted.
 #[derive(Clone, Copy, Debug, PartialEq, Eq)]
 pub enum SubmitRefusal {
+    /// The connection is closed, for this reason.
     Closed(Reason),
+    /// The actor doesn't hold the lease.
     NoLease,
+    /// As many rows as may be are kept, 1,024, ended ones too.
     TableFull,
+    /// The wire has no frame for the ask: the node with the number `entry` of its tree, in preorder from 0, can't be written.
     Unwritable { entry: u32, why: WriteWhy },
+    /// The wire says so many bytes of the ask, more than a frame may have.
     TooLarge { size: u32, limit: u32 },
+    /// No reference is free.
     NoReference,
     NoMemory,
 }
@@ -52,22 +60,29 @@ pub struct Sending {
 /// Why there is nothing to write.
 #[derive(Clone, Copy, Debug, PartialEq, Eq)]
 pub enum SendRefusal {
+    /// The connection is closed, for this reason.
     Closed(Reason),
+    /// No request is queued, or as many as may be are sent and live.
     Nothing,
 }
 
 /// What a frame that came did.
 #[derive(Clone, Copy, Debug, PartialEq, Eq)]
 pub enum FrameAnswer {
+    /// It ended this request, so.
     Ended { id: u64, kind: EndKind },
+    /// It came for a request that ended before: its reference is free again.
     Late { reference: u16 },
+    /// No answer is awaited under its reference.
     Stray { reference: u16 },
+    /// It can't be read, and closed the connection. `index` is its number among the frames that came, from 0.
     Undecodable { index: u64, why: FrameWhy },
 }
 
 /// Why a frame wasn't taken.
 #[derive(Clone, Copy, Debug, PartialEq, Eq)]
 pub enum FrameRefusal {
+    /// The connection is closed, for this reason.
     Closed(Reason),
     NoMemory,
 }
@@ -75,14 +90,18 @@ pub enum FrameRefusal {
 /// Why a request wasn't cancelled.
 #[derive(Clone, Copy, Debug, PartialEq, Eq)]
 pub enum CancelRefusal {
+    /// It ended before, so.
     AlreadyEnded(EndKind),
+    /// The actor has no row with the id.
     NoRequest,
 }
 
 /// Why no outcome was handed out.
 #[derive(Clone, Copy, Debug, PartialEq, Eq)]
 pub enum TakeRefusal {
+    /// The request is live.
     Pending,
+    /// The actor has no row with the id.
     NoRequest,
 }
 

@@ -20,7 +20,8 @@ pub(crate) fn ask(
     requires waiting { vec_len table.old.waiting < vec_capacity table.old.waiting }
     requires leases { table.old.leases_drawn < 2 ^ 64 - 1 }
     ensures answer { result ≡ answer_of (ask_lease settings.now (lists_of table.old) actor now) }
-    ensures table { lists_of table.new ≡ table_or (lists_of table.old) (ask_lease settings.now (lists_of table.old) actor now) }
+    ensures table { lists_of table.new ≡ table_or (lists_of table.old)
+        (ask_lease settings.now (lists_of table.old) actor now) }
     ensures free { table.new.free ≡ table.old.free }
     ensures quarantined { table.new.quarantined ≡ table.old.quarantined }
 {

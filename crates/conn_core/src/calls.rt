@@ -28,9 +28,11 @@ fn write_asked(answer: LeaseAnswer) -> Answer
 /// Takes room for a lease and all that it can cause.
 fn reserve_lease(kept: &mut Kept, settings: &Settings) -> Result<(), AllocError>
     requires { IsKept settings.now kept.old }
-    ensures stays { Stays kept.old.journal.items (lists_of kept.old.table) kept.new.journal.items (lists_of kept.new.table) }
+    ensures stays { Stays kept.old.journal.items (lists_of kept.old.table) kept.new.journal.items
+        (lists_of kept.new.table) }
     ensures kept { IsKept settings.now kept.new }
-    ensures turn { OnOk result (HasTurnRoom (vec_len kept.new.journal) (capacities_of kept.new) (lists_of kept.new.table)) }
+    ensures turn { OnOk result
+        (HasTurnRoom (vec_len kept.new.journal) (capacities_of kept.new) (lists_of kept.new.table)) }
     ensures held { OnOk result (vec_len kept.new.table.held < vec_capacity kept.new.table.held) }
     ensures waiting { OnOk result (vec_len kept.new.table.waiting < vec_capacity kept.new.table.waiting) }
 {
@@ -47,9 +49,16 @@ pub(crate) fn ask_lease(
 ) -> Result<LeaseAnswer, AskRefusal>
     requires settings { IsSettings settings.now }
     requires kept { IsKept settings.now kept.old }
-    ensures answer { IsGivenOrNoMemory AskRefusal.NoMemory result (answer_of (ask_lease settings.now (lists_of kept.old.table) actor now)) }
-    ensures turned { IfOk result (λ answer. Turns settings.now kept.old.journal.items (table_or (lists_of kept.old.table) (ask_lease settings.now (lists_of kept.old.table) actor now)) (record { actor = actor; event = events.AskLease now; answer = asked_answer answer }) kept.new.journal.items (lists_of kept.new.table)) }
-    ensures stays { OnErr result (Stays kept.old.journal.items (lists_of kept.old.table) kept.new.journal.items (lists_of kept.new.table)) }
+    ensures answer { IsGivenOrNoMemory AskRefusal.NoMemory result
+        (answer_of (ask_lease settings.now (lists_of kept.old.table) actor now)) }
+    ensures turned { IfOk result (λ answer.
+        Turns settings.now kept.old.journal.items
+        (table_or (lists_of kept.old.table) (ask_lease settings.now (lists_of kept.old.table) actor now))
+        (record { actor = actor; event = events.AskLease now; answer = asked_answer answer })
+        kept.new.journal.items (lists_of kept.new.table)) }
+    ensures stays { OnErr result
+        (Stays kept.old.journal.items (lists_of kept.old.table) kept.new.journal.items
+        (lists_of kept.new.table)) }
     ensures kept { IsKept settings.now kept.new }
 {
     reserve_lease(kept, settings)?;
@@ -70,8 +79,14 @@ pub(crate) fn take_send(
 ) -> Result<Sending, SendRefusal>
     requires { IsKept settings.now kept.old }
     ensures answer { result ≡ answer_of (take_send settings.now (lists_of kept.old.table)) }
-    ensures turned { IfOk result (λ sending. Turns settings.now kept.old.journal.items (table_or (lists_of kept.old.table) (take_send settings.now (lists_of kept.old.table))) (record { actor = actor; event = events.TakeSend; answer = answers.Sent sending.id }) kept.new.journal.items (lists_of kept.new.table)) }
-    ensures stays { OnErr result (Stays kept.old.journal.items (lists_of kept.old.table) kept.new.journal.items (lists_of kept.new.table)) }
+    ensures turned { IfOk result (λ sending.
+        Turns settings.now kept.old.journal.items
+        (table_or (lists_of kept.old.table) (take_send settings.now (lists_of kept.old.table)))
+        (record { actor = actor; event = events.TakeSend; answer = answers.Sent sending.id })
+        kept.new.journal.items (lists_of kept.new.table)) }
+    ensures stays { OnErr result
+        (Stays kept.old.journal.items (lists_of kept.old.table) kept.new.journal.items
+        (lists_of kept.new.table)) }
     ensures kept { IsKept settings.now kept.new }
 {
     let sending = send(&mut kept.table, settings)?;
@@ -92,8 +107,14 @@ pub(crate) fn cancel(
 ) -> Result<(), CancelRefusal>
     requires { IsKept settings.now kept.old }
     ensures answer { result ≡ answer_of (cancel (lists_of kept.old.table) actor id) }
-    ensures turned { OnOk result (Turns settings.now kept.old.journal.items (table_or (lists_of kept.old.table) (cancel (lists_of kept.old.table) actor id)) (record { actor = actor; event = events.Cancel id; answer = answers.Cancelled }) kept.new.journal.items (lists_of kept.new.table)) }
-    ensures stays { OnErr result (Stays kept.old.journal.items (lists_of kept.old.table) kept.new.journal.items (lists_of kept.new.table)) }
+    ensures turned { OnOk result
+        (Turns settings.now kept.old.journal.items
+        (table_or (lists_of kept.old.table) (cancel (lists_of kept.old.table) actor id))
+        (record { actor = actor; event = events.Cancel id; answer = answers.Cancelled })
+        kept.new.journal.items (lists_of kept.new.table)) }
+    ensures stays { OnErr result
+        (Stays kept.old.journal.items (lists_of kept.old.table) kept.new.journal.items
+        (lists_of kept.new.table)) }
     ensures kept { IsKept settings.now kept.new }
 {
     cancel_row(&mut kept.table, actor, id)?;
@@ -114,8 +135,14 @@ pub(crate) fn collect(
 ) -> Result<Outcome, TakeRefusal>
     requires { IsKept settings.now kept.old }
     ensures answer { result ≡ answer_of (collect (lists_of kept.old.table) actor id) }
-    ensures turned { IfOk result (λ outcome. Turns settings.now kept.old.journal.items (table_or (lists_of kept.old.table) (collect (lists_of kept.old.table) actor id)) (record { actor = actor; event = events.Collect id; answer = answers.Collected outcome.kind }) kept.new.journal.items (lists_of kept.new.table)) }
-    ensures stays { OnErr result (Stays kept.old.journal.items (lists_of kept.old.table) kept.new.journal.items (lists_of kept.new.table)) }
+    ensures turned { IfOk result (λ outcome.
+        Turns settings.now kept.old.journal.items
+        (table_or (lists_of kept.old.table) (collect (lists_of kept.old.table) actor id))
+        (record { actor = actor; event = events.Collect id; answer = answers.Collected outcome.kind })
+        kept.new.journal.items (lists_of kept.new.table)) }
+    ensures stays { OnErr result
+        (Stays kept.old.journal.items (lists_of kept.old.table) kept.new.journal.items
+        (lists_of kept.new.table)) }
     ensures kept { IsKept settings.now kept.new }
 {
     let outcome = collect_row(&mut kept.table, actor, id)?;

@@ -25,7 +25,8 @@ pub(crate) fn is_sent(row: &Row) -> bool
 
 /// The place of an actor's row.
 pub(crate) fn place_of(rows: &[Row], actor: u32, id: u64) -> Option<usize>
-    ensures { MatchOption result (find (is_row_of actor id) rows.now ≡ None) (IsFirstAt (is_row_of actor id) rows.now) }
+    ensures { MatchOption result (find (is_row_of actor id) rows.now ≡ None)
+        (IsFirstAt (is_row_of actor id) rows.now) }
 {
     rows.iter()
         .position(|row| row.id == id && row.actor == actor)
@@ -35,12 +36,13 @@ pub(crate) fn place_of(rows: &[Row], actor: u32, id: u64) -> Option<usize>
 pub(crate) fn place_queued(rows: &[Row]) -> Option<usize>
     ensures { MatchOption result (find is_queued rows.now ≡ None) (IsFirstAt is_queued rows.now) }
 {
-    rows.iter().position(|row| is_queued(row))
+    rows.iter().position(is_queued)
 }
 
 /// The place of the row that was sent under a reference and has not ended.
 pub(crate) fn place_sent(rows: &[Row], reference: u16) -> Option<usize>
-    ensures { MatchOption result (find (is_sent_with reference) rows.now ≡ None) (IsFirstAt (is_sent_with reference) rows.now) }
+    ensures { MatchOption result (find (is_sent_with reference) rows.now ≡ None)
+        (IsFirstAt (is_sent_with reference) rows.now) }
 {
     rows.iter()
         .position(|row| row.reference == reference && is_sent(row))
@@ -48,7 +50,8 @@ pub(crate) fn place_sent(rows: &[Row], reference: u16) -> Option<usize>
 
 /// The place of a reference in quarantine.
 pub(crate) fn place_quarantined(references: &[u16], reference: u16) -> Option<usize>
-    ensures { MatchOption result (find (is_reference reference) references.now ≡ None) (IsFirstAt (is_reference reference) references.now) }
+    ensures { MatchOption result (find (is_reference reference) references.now ≡ None)
+        (IsFirstAt (is_reference reference) references.now) }
 {
     references.iter().position(|r| *r == reference)
 }

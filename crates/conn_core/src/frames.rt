@@ -35,9 +35,16 @@ pub(crate) fn apply_frame<W: Wire>(
     requires settings { IsSettings settings.now }
     requires kept { IsKept settings.now kept.old }
     requires admitted { All (IsAdmittedRow (W.meaning wire.now)) kept.old.table.rows.items }
-    ensures answer { IsGivenOrNoMemory FrameRefusal.NoMemory result (answer_of (apply_frame (W.meaning wire.now) (lists_of kept.old.table) frame)) }
-    ensures turned { OnOk result (TurnsAs settings.now kept.old.journal.items (apply_frame (W.meaning wire.now) (lists_of kept.old.table) frame) (λ answer. record { actor = actor; event = events.Frame frame; answer = frame_answer answer }) kept.new.journal.items (lists_of kept.new.table)) }
-    ensures stays { OnErr result (Stays kept.old.journal.items (lists_of kept.old.table) kept.new.journal.items (lists_of kept.new.table)) }
+    ensures answer { IsGivenOrNoMemory FrameRefusal.NoMemory result
+        (answer_of (apply_frame (W.meaning wire.now) (lists_of kept.old.table) frame)) }
+    ensures turned { OnOk result
+        (TurnsAs settings.now kept.old.journal.items
+        (apply_frame (W.meaning wire.now) (lists_of kept.old.table) frame)
+        (λ answer. record { actor = actor; event = events.Frame frame; answer = frame_answer answer })
+        kept.new.journal.items (lists_of kept.new.table)) }
+    ensures stays { OnErr result
+        (Stays kept.old.journal.items (lists_of kept.old.table) kept.new.journal.items
+        (lists_of kept.new.table)) }
     ensures kept { IsKept settings.now kept.new }
 {
     reserve_turn(kept, settings)?;

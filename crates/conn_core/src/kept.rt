@@ -2,7 +2,7 @@ ghost use Rattle.std.specs.Prelude.{◌≡◌, ◌+◌, ◌≤◌, ◌*◌, ◌+
 ghost use Rattle.std.specs.List.{range_with_len};
 ghost use Rattle.std.specs.Vec.{vec_capacity};
 ghost use Rattle.std.specs.VecDeque.{deque_capacity};
-ghost use Rattle.conn_core.specs.Journals.{settled, turn_of, wears, worn_entry};
+ghost use Rattle.conn_core.specs.Journals.{after_turn, turn_of, wears, worn_entry};
 ghost use Rattle.conn_core.specs.Rooms.{CanTurn, HasEndRoom, HasTurnRoom, IsKept, KeepsRoom, Stays, Turns, capacities_of, closes_of, lists_of, room_of};
 ghost use Rattle.conn_core.specs.Tables.{IsSettings, is_open, opening};
 
@@ -44,11 +44,7 @@ pub(crate) fn is_open(table: &KeptTable) -> bool
 fn wears(table: &KeptTable, settings: &Settings, entries: usize) -> bool
     ensures { result ≡ wears settings.now entries (lists_of table.now) }
 {
-    if entries == settings.journal as usize {
-        is_open(table)
-    } else {
-        false
-    }
+    entries == settings.journal as usize && is_open(table)
 }
 
 /// Writes an entry down, and closes the table where the journal is full by it.
@@ -60,8 +56,9 @@ pub(crate) fn record(
 )
     requires room { vec_len journal.old + 1 + closes_of (lists_of table.old) ≤ vec_capacity journal.old }
     requires ending { HasEndRoom (room_of table.old) table.old.rows.items }
-    ensures journal { journal.new.items ≡ journal.old.items ++ turn_of settings.now (length journal.old.items + 1) (lists_of table.old) entry }
-    ensures table { lists_of table.new ≡ settled settings.now (length journal.old.items + 1) (lists_of table.old) }
+    ensures journal { journal.new.items ≡ journal.old.items ++ turn_of settings.now (length journal.old.items + 1)
+        (lists_of table.old) entry }
+    ensures table { lists_of table.new ≡ after_turn settings.now (length journal.old.items + 1) (lists_of table.old) }
     ensures journal_room { vec_capacity journal.old ≤ vec_capacity journal.new }
     ensures keeps { KeepsRoom (room_of table.old) (room_of table.new) }
 {
@@ -78,9 +75,11 @@ pub(crate) fn record(
 pub(crate) fn reserve_turn(kept: &mut Kept, settings: &Settings) -> Result<(), AllocError>
     requires { IsKept settings.now kept.old }
     ensures table { kept.new.table ≡ kept.old.table }
-    ensures stays { Stays kept.old.journal.items (lists_of kept.old.table) kept.new.journal.items (lists_of kept.new.table) }
+    ensures stays { Stays kept.old.journal.items (lists_of kept.old.table) kept.new.journal.items
+        (lists_of kept.new.table) }
     ensures kept { IsKept settings.now kept.new }
-    ensures turn { OnOk result (HasTurnRoom (vec_len kept.new.journal) (capacities_of kept.new) (lists_of kept.new.table)) }
+    ensures turn { OnOk result
+        (HasTurnRoom (vec_len kept.new.journal) (capacities_of kept.new) (lists_of kept.new.table)) }
 {
     let rows = kept.table.rows.len();
     let held = kept.table.held.len();
@@ -91,7 +90,8 @@ pub(crate) fn reserve_turn(kept: &mut Kept, settings: &Settings) -> Result<(), A
 /// Writes down an entry that can cause no more than there is room for.
 pub(crate) fn write_down(kept: &mut Kept, settings: &Settings, entry: Entry)
     requires { CanTurn settings.now (vec_len kept.old.journal) (capacities_of kept.old) (lists_of kept.old.table) }
-    ensures turned { Turns settings.now kept.old.journal.items (lists_of kept.old.table) entry kept.new.journal.items (lists_of kept.new.table) }
+    ensures turned { Turns settings.now kept.old.journal.items (lists_of kept.old.table) entry kept.new.journal.items
+        (lists_of kept.new.table) }
     ensures kept { IsKept settings.now kept.new }
 {
     record(&mut kept.journal, &mut kept.table, settings, entry);

@@ -18,8 +18,10 @@ use wire_frames::{FrameWhy, Outcome, Reason, Reply, ReplyFault, Wire};
 /// Frees a quarantined reference, to which no row answers any more.
 fn settle(table: &mut KeptTable, reference: u16) -> FrameAnswer
     requires free { deque_len table.old.free + vec_len table.old.quarantined ≤ deque_capacity table.old.free }
-    ensures answer { result ≡ (without_row (lists_of table.old) reference (find (is_reference reference) table.old.quarantined.items)).1 }
-    ensures table { lists_of table.new ≡ (without_row (lists_of table.old) reference (find (is_reference reference) table.old.quarantined.items)).0 }
+    ensures answer { result ≡
+        (without_row (lists_of table.old) reference (find (is_reference reference) table.old.quarantined.items)).1 }
+    ensures table { lists_of table.new ≡
+        (without_row (lists_of table.old) reference (find (is_reference reference) table.old.quarantined.items)).0 }
     ensures keeps { KeepsRoom (room_of table.old) (room_of table.new) }
 {
     match place_quarantined(&table.quarantined, reference) {
@@ -48,11 +50,16 @@ fn arrive<W: Wire>(
     wire: &W,
     reply: &Reply<'_>,
 ) -> Result<FrameAnswer, AllocError>
-    requires free { deque_len table.old.free + vec_len table.old.quarantined + sum_by references_kept table.old.rows.items ≤ deque_capacity table.old.free }
+    requires free { deque_len table.old.free + vec_len table.old.quarantined + sum_by references_kept table.old.rows.items
+        ≤ deque_capacity table.old.free }
     requires admitted { All (IsAdmittedRow (W.meaning wire.now)) table.old.rows.items }
     requires read { (W.meaning wire.now).reading_of reply.now.frame.now ≡ Ok reply.now.reading }
-    ensures answer { IfOk result (λ answer. answer ≡ (arrived (W.meaning wire.now) (lists_of table.old) reply.now.reference reply.now.reading (find (is_sent_with reply.now.reference) table.old.rows.items)).1) }
-    ensures table { OnOk result (lists_of table.new ≡ (arrived (W.meaning wire.now) (lists_of table.old) reply.now.reference reply.now.reading (find (is_sent_with reply.now.reference) table.old.rows.items)).0) }
+    ensures answer { IfOk result (λ answer.
+        answer ≡
+        (arrived (W.meaning wire.now) (lists_of table.old) reply.now.reference reply.now.reading (find (is_sent_with reply.now.reference) table.old.rows.items)).1) }
+    ensures table { OnOk result
+        (lists_of table.new ≡
+        (arrived (W.meaning wire.now) (lists_of table.old) reply.now.reference reply.now.reading (find (is_sent_with reply.now.reference) table.old.rows.items)).0) }
     ensures stays { OnErr result (lists_of table.new ≡ lists_of table.old) }
     ensures keeps { KeepsRoom (room_of table.old) (room_of table.new) }
 {
@@ -88,12 +95,16 @@ pub(crate) fn receive<W: Wire>(
     wire: &W,
     bytes: &[u8],
 ) -> Result<FrameAnswer, FrameRefusal>
-    requires free { deque_len table.old.free + vec_len table.old.quarantined + sum_by references_kept table.old.rows.items ≤ deque_capacity table.old.free }
+    requires free { deque_len table.old.free + vec_len table.old.quarantined + sum_by references_kept table.old.rows.items
+        ≤ deque_capacity table.old.free }
     requires ending { HasEndRoom (room_of table.old) table.old.rows.items }
     requires admitted { All (IsAdmittedRow (W.meaning wire.now)) table.old.rows.items }
     requires frames { table.old.frames_taken < 2 ^ 64 - 1 }
-    ensures answer { IsGivenOrNoMemory FrameRefusal.NoMemory result (answer_of (apply_frame (W.meaning wire.now) (lists_of table.old) bytes.now)) }
-    ensures table { OnOk result (lists_of table.new ≡ table_or (lists_of table.old) (apply_frame (W.meaning wire.now) (lists_of table.old) bytes.now)) }
+    ensures answer { IsGivenOrNoMemory FrameRefusal.NoMemory result
+        (answer_of (apply_frame (W.meaning wire.now) (lists_of table.old) bytes.now)) }
+    ensures table { OnOk result
+        (lists_of table.new ≡ table_or (lists_of table.old)
+        (apply_frame (W.meaning wire.now) (lists_of table.old) bytes.now)) }
     ensures stays { OnErr result (lists_of table.new ≡ lists_of table.old) }
     ensures keeps { KeepsRoom (room_of table.old) (room_of table.new) }
 {

@@ -25,9 +25,11 @@ fn take_frames<W: Wire>(
 ) -> Result<Frames, SubmitRefusal>
     requires admitted { IsTrue ((W.meaning wire.now).admits request.now.ask) }
     requires drafted { IsDraftOf ((W.meaning wire.now).frame_of request.now.ask (next_reference table.now.free.items)) draft }
-    ensures written { IfOk result (λ frames. prepared (W.meaning wire.now) (lists_of table.now) (request_of request.now) ≡ Ok frames.written) }
+    ensures written { IfOk result (λ frames.
+        prepared (W.meaning wire.now) (lists_of table.now) (request_of request.now) ≡ Ok frames.written) }
     ensures sent { IfOk result (λ frames. frames.sent ≡ frames.written) }
-    ensures err { IfErr result (λ refusal. prepared (W.meaning wire.now) (lists_of table.now) (request_of request.now) ≡ Err refusal) }
+    ensures err { IfErr result (λ refusal.
+        prepared (W.meaning wire.now) (lists_of table.now) (request_of request.now) ≡ Err refusal) }
 {
     check_place(table, request.actor, request.lease)?;
     let frames = match draft {
@@ -45,9 +47,11 @@ fn take_frames<W: Wire>(
 /// Takes room for a request and all that it can cause.
 fn reserve_request(kept: &mut Kept, settings: &Settings) -> Result<(), AllocError>
     requires { IsKept settings.now kept.old }
-    ensures stays { Stays kept.old.journal.items (lists_of kept.old.table) kept.new.journal.items (lists_of kept.new.table) }
+    ensures stays { Stays kept.old.journal.items (lists_of kept.old.table) kept.new.journal.items
+        (lists_of kept.new.table) }
     ensures kept { IsKept settings.now kept.new }
-    ensures turn { OnOk result (HasTurnRoom (vec_len kept.new.journal) (capacities_of kept.new) (lists_of kept.new.table)) }
+    ensures turn { OnOk result
+        (HasTurnRoom (vec_len kept.new.journal) (capacities_of kept.new) (lists_of kept.new.table)) }
     ensures rows { OnOk result (vec_len kept.new.table.rows < vec_capacity kept.new.table.rows) }
 {
     reserve_turn(kept, settings)?;
@@ -64,9 +68,18 @@ pub(crate) fn submit<W: Wire>(
     requires settings { IsSettings settings.now }
     requires kept { IsKept settings.now kept.old }
     requires admitted { IsTrue ((W.meaning wire.now).admits request.ask) }
-    ensures answer { IsGivenOrNoMemory SubmitRefusal.NoMemory result (accepted_of (answer_of (handed_in (W.meaning wire.now) (lists_of kept.old.table) (request_of request)))) }
-    ensures turned { OnOk result (TurnsAs settings.now kept.old.journal.items (handed_in (W.meaning wire.now) (lists_of kept.old.table) (request_of request)) (λ started. record { actor = request.actor; event = events.Submit request.lease request.ask request.timeout_ms request.moment; answer = started_answer started }) kept.new.journal.items (lists_of kept.new.table)) }
-    ensures stays { OnErr result (Stays kept.old.journal.items (lists_of kept.old.table) kept.new.journal.items (lists_of kept.new.table)) }
+    ensures answer { IsGivenOrNoMemory SubmitRefusal.NoMemory result
+        (accepted_of
+        (answer_of (handed_in (W.meaning wire.now) (lists_of kept.old.table) (request_of request)))) }
+    ensures turned { OnOk result
+        (TurnsAs settings.now kept.old.journal.items
+        (handed_in (W.meaning wire.now) (lists_of kept.old.table) (request_of request))
+        (λ started. record
+        { actor = request.actor; event = events.Submit request.lease request.ask request.timeout_ms request.moment; answer = started_answer started })
+        kept.new.journal.items (lists_of kept.new.table)) }
+    ensures stays { OnErr result
+        (Stays kept.old.journal.items (lists_of kept.old.table) kept.new.journal.items
+        (lists_of kept.new.table)) }
     ensures kept { IsKept settings.now kept.new }
 {
     let alloc = kept.table.alloc;

@@ -1,12 +1,16 @@
-/// How a connection is shared. `references` are 1 to this many, `window` requests may be sent and
-/// live, `share` leases may be held, the journal has at most `journal` entries until it is
-/// closed, a lease lasts `lease_ms` and a caller waits `wait_ms` for one, in milliseconds.
+/// How a connection is shared.
 #[derive(Clone, Copy, Debug, PartialEq, Eq)]
 pub struct Settings {
+    /// Requests go out under the references from 1 to this one, which is 1 to 65,535.
     pub references: u16,
+    /// How many requests may be sent and live, 1 to 64.
     pub window: u8,
+    /// How many leases may be held, 1 to 64.
     pub share: u8,
+    /// With how many entries the journal closes the connection, 64 to 262,144.
     pub journal: u32,
+    /// How long a lease lasts, 1 to 86,400,000 milliseconds.
     pub lease_ms: u32,
+    /// How long a caller waits for a lease, 1 to 86,400,000 milliseconds.
     pub wait_ms: u32,
 }

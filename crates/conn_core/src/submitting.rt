@@ -35,7 +35,8 @@ pub(crate) fn peek_reference(free: &VecDeque<u16>) -> u16
 
 /// Whether the caller may hand in a request, as the table stands.
 pub(crate) fn check_place(table: &KeptTable, actor: u32, lease: u64) -> Result<(), SubmitRefusal>
-    ensures ok { OnOk result (reference_to_try (lists_of table.now) actor lease ≡ Ok (next_reference table.now.free.items)) }
+    ensures ok { OnOk result
+        (reference_to_try (lists_of table.now) actor lease ≡ Ok (next_reference table.now.free.items)) }
     ensures err { IfErr result (λ refusal. reference_to_try (lists_of table.now) actor lease ≡ Err refusal) }
 {
     if let Some(reason) = table.closed {
@@ -58,8 +59,10 @@ pub(crate) fn start(
 ) -> Result<Accepted, SubmitRefusal>
     requires rows { vec_len table.old.rows < vec_capacity table.old.rows }
     requires requests { table.old.requests_drawn < 2 ^ 64 - 1 }
-    ensures answer { result ≡ accepted_of (answer_of (with_reference (lists_of table.old) (request_of request) frame table.old.free.items)) }
-    ensures table { lists_of table.new ≡ table_or (lists_of table.old) (with_reference (lists_of table.old) (request_of request) frame table.old.free.items) }
+    ensures answer { result ≡ accepted_of
+        (answer_of (with_reference (lists_of table.old) (request_of request) frame table.old.free.items)) }
+    ensures table { lists_of table.new ≡ table_or (lists_of table.old)
+        (with_reference (lists_of table.old) (request_of request) frame table.old.free.items) }
     ensures keeps { KeepsRoom (room_of table.old) (room_of table.new) }
 {
     let reference = match table.free.pop_front() {

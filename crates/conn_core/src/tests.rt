@@ -214,6 +214,18 @@ fn a_reply_before_the_sending_is_stray(rt: HostRuntime) -> Result<(), Fail> {
 }
 
 #[test]
+fn requests_are_sent_in_the_order_of_their_ids(rt: HostRuntime) -> Result<(), Fail> {
+    let lines = [
+        (SUBMIT, Said::Started(1, 1)),
+        (SUBMIT, Said::Started(2, 2)),
+        (Line::Send, Said::Sent(1, 1)),
+        (Line::Send, Said::Sent(2, 2)),
+        (Line::Send, Said::NotSent(SendRefusal::Nothing)),
+    ];
+    run(&rt, rt.alloc(), 2, &lines, 5)
+}
+
+#[test]
 fn a_request_needs_a_held_lease(rt: HostRuntime) -> Result<(), Fail> {
     let lines = [
         (

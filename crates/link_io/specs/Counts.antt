@@ -1,6 +1,5 @@
 -- Counts that never fall: of faults, and of the times that an end was met.
 use Rattle.std.specs.Prelude.{ℕ, ◌≡◌, ◌+◌, ◌<◌, min, max}
-use Rattle.std.proofs.Common.{arith}
 
 -- the greatest count, where a count stands still
 abbrev pub top : ℕ
@@ -13,10 +12,6 @@ next count = max count (min (count + 1) top)
 -- the count rose, by one; at the top it stands still
 abbrev pub Rose : ℕ → ℕ → Type 0
 Rose old new = new ≡ next old
-
--- below the top a count that rose is greater
-pub Rose-greater : (old new : ℕ) → Rose old new → old < top → old < new
-Rose-greater old new rose below = omega (arith, rose)
 
 -- what is known of a source that tells nothing of its bytes
 pub record SourceCounts : Type 0 where

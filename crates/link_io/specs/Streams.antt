@@ -98,11 +98,6 @@ abbrev pub AreFirst : List ℕ → Option (List ℕ) → Type 0
 AreFirst bytes None = Unit {0}
 AreFirst bytes (Some file) = take (length bytes) file ≡ bytes
 
--- no bytes are the first of each file
-pub AreFirst-nil : (file : Option (List ℕ)) → AreFirst [] file
-AreFirst-nil None = tt
-AreFirst-nil (Some file) = refl
-
 -- the first bytes of a file and what a read from there took, are its first bytes
 pub AreFirst-append : (file : Option (List ℕ)) (bytes taken : List ℕ) (count : ℕ)
     → count ≤ length taken
@@ -112,11 +107,3 @@ pub AreFirst-append : (file : Option (List ℕ)) (bytes taken : List ℕ) (count
 AreFirst-append None bytes taken count within first next = tt
 AreFirst-append (Some file) bytes taken count within first next =
     rw (length-append, length-take-le count taken within, take-add, first, ← next)
-
--- first bytes after which the file has none are the whole file
-pub AreFirst-whole : (file : Option (List ℕ)) (bytes : List ℕ)
-    → AreFirst bytes file
-    → IfSome file (λ whole. length whole ≤ length bytes)
-    → IfSome file (λ whole. whole ≡ bytes)
-AreFirst-whole None bytes first done = tt
-AreFirst-whole (Some file) bytes first done = sym (take_all (length bytes) file done) ∙ first

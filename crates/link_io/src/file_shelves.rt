@@ -35,6 +35,7 @@ impl<R: Files> Model for FileShelf<R> {
 }
 
 impl<R: Files> FileShelf<R> {
+    /// A shelf of which no file is open. An `Err` is want of memory for the open file's name, 4,096 bytes.
     pub fn new(rt: R, alloc: Global) -> Result<FileShelf<R>, AllocError>
     where
         R: Drop,

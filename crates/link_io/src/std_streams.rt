@@ -7,7 +7,7 @@ use std::io::{Read, Write};
 use std::marker::Model;
 
 /// A reader of std as a source. It tells nothing of its bytes, and counts its errors and its ends. A read that a signal
-/// interrupted is made again, and is no error.
+/// interrupted is made again, up to 1,000,000 times, and is no error.
 #[derive(Drop)]
 pub struct StdSource<R> {
     reader: R,
@@ -68,7 +68,7 @@ impl<R: Read> Source for StdSource<R> {
 }
 
 /// A writer of std as a sink. It tells nothing of its bytes, and counts its errors and the writes that took
-/// no byte. A call that a signal interrupted is made again, and is no error.
+/// no byte. A call that a signal interrupted is made again, up to 1,000,000 times, and is no error.
 #[derive(Drop)]
 pub struct StdSink<W> {
     writer: W,

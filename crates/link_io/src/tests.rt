@@ -5,7 +5,7 @@ ghost use Rattle.link_io.specs.Streams.{after_giving, AreAllLeft, after_taking};
 
 use super::*;
 use std::alloc::{AllocError, Global};
-use std::io::{ErrorKind, Read};
+use std::io::{ErrorKind, Read, Write};
 use std::test::Fail;
 use std::{env, fs, io, process};
 
@@ -297,6 +297,59 @@ fn an_interrupted_read_is_made_again(rt: HostRuntime) -> Result<(), Fail> {
     assert_eq!(rt; source.read(&mut to), Err(Failed));
     assert_eq!(rt; source.faults(), 1);
     assert_eq!(rt; source.ends(), 0);
+    Ok(())
+}
+
+/// A writer whose every other call a signal interrupts, that takes one byte a call, and that fails from its fifth on.
+#[derive(Drop)]
+struct Halting {
+    calls: u8,
+}
+
+impl Halting {
+    fn next_call(&mut self) -> io::Result<()> {
+        self.calls = self.calls.saturating_add(1);
+        match self.calls {
+            1 | 3 => Err(io::Error::from(ErrorKind::Interrupted)),
+            2 | 4 => Ok(()),
+            _ => Err(io::Error::from(ErrorKind::WriteZero)),
+        }
+    }
+}
+
+impl Write for Halting {
+    fn write(&mut self, from: &[u8]) -> io::Result<usize> {
+        self.next_call()?;
+        Ok(from.len().min(1))
+    }
+
+    fn flush(&mut self) -> io::Result<()> {
+        self.next_call()
+    }
+}
+
+#[test]
+fn an_interrupted_write_and_flush_are_made_again(rt: HostRuntime) -> Result<(), Fail> {
+    let mut sink = StdSink::new(Halting { calls: 0 });
+    assert_eq!(rt; sink.write(b"01"), Ok(1));
+    assert_eq!(rt; sink.flush(), Ok(()));
+    assert_eq!(rt; sink.faults(), 0);
+    assert_eq!(rt; sink.flush(), Err(Failed));
+    assert_eq!(rt; sink.write(b"0"), Err(Failed));
+    assert_eq!(rt; sink.faults(), 2);
+    Ok(())
+}
+
+#[test]
+fn a_name_longer_than_the_system_opens_is_a_fault(rt: HostRuntime) -> Result<(), Fail> {
+    let mut name = String::new(rt.alloc());
+    for _ in 0..5_000u32 {
+        name.push('n')?;
+    }
+    let mut shelf = FileShelf::new(rt, rt.alloc())?;
+    let mut piece = [0u8; 2];
+    assert_eq!(rt; shelf.read_at(name.as_str(), 0, &mut piece), Err(Failed));
+    assert_eq!(rt; shelf.faults(), 1);
     Ok(())
 }
 

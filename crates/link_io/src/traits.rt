@@ -62,7 +62,8 @@ pub trait Shelf {
     ghost counts_with: { List ℕ → List ℕ → Type 0 };
 
     /// Names that are counted together share one count.
-    ghost share_a_count: { (shelf : Self) (one other : List ℕ) → counts_with one other → (seen shelf).faults one ≡ (seen shelf).faults other };
+    ghost share_a_count: { (shelf : Self) (one other : List ℕ) → counts_with one other
+        → (seen shelf).faults one ≡ (seen shelf).faults other };
 
     /// Where it tells that there is no file of a name, it tells no bytes for that name.
     ghost lacks_no_file: { (shelf : Self) (name : List ℕ) → IsTrue ((seen shelf).lacks name) → (seen shelf).file name ≡ None };

@@ -1,5 +1,5 @@
--- The descriptions that can be read so far: a type without parameters whose fields are unsigned numbers of whole
--- bytes, in any order of bytes.
+-- The descriptions that can be read so far: a type without parameters whose fields are unsigned numbers of 8, 16, 32 or 64
+-- bits, in any order of bytes.
 use Rattle.std.specs.Prelude.{ℕ, ℤ, ◌≡◌, ◌⊎◌, List, [], Some, slice_get}
 use Rattle.std.specs.List.{AllByRecursion}
 use Rattle.mspec_tree.specs.declared.words.Simple.TheVariants.{Uint}
@@ -21,7 +21,7 @@ abbrev pub HasWidth : Body-F Body Case Field → ℕ → Type 0
 HasWidth (Simple (Plain (Uint written))) width = (written ≡ width) × IsWidth width
 HasWidth other width = ⊥
 
--- a simple field of an unsigned number of whole bytes
+-- a simple field of an unsigned number of such a width
 abbrev pub IsPlainField : Field → Type 0
 IsPlainField field = (width : ℕ) × HasWidth (out-Body (out-Field field).body) width
 

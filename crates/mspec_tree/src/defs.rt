@@ -41,8 +41,8 @@ pub enum DefBody {
     Enum(Simple, ConstantList),
 }
 
-/// A definition. `place` is its bracket's, `named` its name's. `order` is the order of bytes of the fields that have none of
-/// their own.
+/// A definition. `place` is its bracket's, `named` its name's. `order` is the order of bytes of those of its fields that have
+/// none of their own and are numbers of whole bytes.
 #[derive(Debug, Drop)]
 pub struct Def {
     pub place: Place,

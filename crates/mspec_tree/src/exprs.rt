@@ -27,7 +27,7 @@ pub enum Shape {
     CurPos,
     /// `lengthInBytes` by itself, the length of the type's value.
     Length,
-    /// `lastItem`, whether the value is the last item of an array.
+    /// `lastItem`, whether the value is itself the last item of an array by count.
     LastItem,
     /// `SUM_BYTES`, the sum of the bytes from the type's first bit on.
     SumBytes,

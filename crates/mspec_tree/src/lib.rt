@@ -1,5 +1,8 @@
-//! The syntax tree of a description in mspec, the language in which Apache PLC4X describes protocols. Its forms are those of
-//! PLC4X's documentation of the mspec format, with quoted expressions. `docs/LANGUAGE.md` says what this compiler takes of it.
+//! The syntax tree of a description in mspec, the language in which Apache PLC4X describes protocols.
+//!
+//! Its forms are this project's profile of the format, after PLC4X's documentation, with quoted expressions: the operators and how
+//! they group, the two forms of `CAST`, and `curPos`, `lengthInBytes`, `lastItem`, `SUM_BYTES` and `XOR_BYTES` are this
+//! project's own. `docs/LANGUAGE.md` says what this compiler takes of it.
 #![tactic(auto)]
 
 mod defs;

@@ -106,11 +106,3 @@ impl From<AllocError> for WriteFault {
         WriteFault::NoMemory
     }
 }
-
-impl<T: Drop> From<AllocFailed<T>> for WriteFault {
-    ghost from_gives = { λ _ e. e ≡ WriteNoMemory };
-
-    fn from(_error: AllocFailed<T>) -> WriteFault {
-        WriteFault::NoMemory
-    }
-}

@@ -5,7 +5,7 @@ use Rattle.std.proofs.lemmas.Bool.Decides.{nat_tests}
 use Rattle.wire_frames.specs.RawFrames.{raw_admits}
 use Rattle.wire_frames.specs.declared.asks.Ask.TheVariants.{Raw}
 use Rattle.wire_frames.specs.declared.raw.RawWire.{RawWire}
-use Rattle.conn_core.specs.Journals.{opened as nothing_yet, turned, is_worn, settled, settled_if, table_of, turn_if, turn_of, wears}
+use Rattle.conn_core.specs.Journals.{opened as nothing_yet, turned, is_worn, after_turn, after_turn_if, table_of, turn_if, turn_of, wears}
 use Rattle.conn_core.specs.States.{State, connection_of, grown, table_in}
 use Rattle.conn_core.specs.Steps.{step}
 use Rattle.conn_core.specs.Tables.{IsSettings, Table, is_open}
@@ -50,14 +50,14 @@ grown_unworn n st actor event (Some p) steps plain keeps last h =
     let one : turn_of s m p.0 e ≡ e ∷ [] = ap (λ b. turn_if b e) unfilled in
     let more : length (st.journal ++ turn_of s m p.0 e) ≡ length st.journal + length (turn_of s m p.0 e) = length-append st.journal (turn_of s m p.0 e) in
     let len : length (turn_of s m p.0 e) ≡ 1 = ap length one in
-    let table : table_of c (st.journal ++ turn_of s m p.0 e) ≡ settled s m p.0 = turn_table c st.journal m p.0 e steps in
+    let table : table_of c (st.journal ++ turn_of s m p.0 e) ≡ after_turn s m p.0 = turn_table c st.journal m p.0 e steps in
     record {
       legal = turned st.journal e p.0 h.legal plain steps;
       few = omega arith;
       last = omega arith;
       limit = h.limit;
       below = omega arith;
-      unclosed = ap (λ t. t.closed) (table ∙ ap (λ b. settled_if b p.0) unfilled) ∙ keeps ∙ h.unclosed;
+      unclosed = ap (λ t. t.closed) (table ∙ ap (λ b. after_turn_if b p.0) unfilled) ∙ keeps ∙ h.unclosed;
     }
 
 -- each call behind the table line stands at the second line or behind it, and up to the 63rd

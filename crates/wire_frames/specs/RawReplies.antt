@@ -2,19 +2,19 @@
 use Rattle.std.specs.Prelude.{ℕ, ◌≡◌, ◌+◌, ◌≤◌, true, false, if◌then◌else◌, ◌==◌, List, [], ◌∷◌, length, IsTrue, Ok}
 use Rattle.std.proofs.Common.{ap, arith, inr, refl}
 use Rattle.wire_frames.specs.RawFrames.{asked_payload, done_bytes, payload_fit, raw_admits, raw_frame, raw_meaning}
-use Rattle.wire_frames.specs.WireMeaning.{IsReplyKind}
+use Rattle.wire_frames.specs.WireMeaning.{IsReplyOutcome}
 use Rattle.wire_frames.specs.declared.asks.Ask.{Ask}
 use Rattle.wire_frames.specs.declared.asks.Ask.TheVariants as asks
 use Rattle.wire_frames.specs.declared.ends.EndKind.TheVariants.{Remote}
 
-pub payload_replies : (asked payload : List ℕ) → IsReplyKind (asks.Raw asked) (payload_fit payload)
+pub payload_replies : (asked payload : List ℕ) → IsReplyOutcome (asks.Raw asked) (payload_fit payload)
 payload_replies asked [] = refl
 payload_replies asked (b ∷ []) = inr refl
 payload_replies asked (b ∷ c ∷ []) =
-    elim (b == 255) as (λ v. IsReplyKind (asks.Raw asked) (if v then record { kind = Remote c; values = [] } else done_bytes (b ∷ c ∷ []))) [ true ↦ refl | false ↦ inr refl ]
+    elim (b == 255) as (λ v. IsReplyOutcome (asks.Raw asked) (if v then record { kind = Remote c; values = [] } else done_bytes (b ∷ c ∷ []))) [ true ↦ refl | false ↦ inr refl ]
 payload_replies asked (b ∷ c ∷ d ∷ rest) = inr refl
 
-pub raw_replies : (ask : Ask) (payload : List ℕ) → IsTrue (raw_admits ask) → IsReplyKind ask (payload_fit payload)
+pub raw_replies : (ask : Ask) (payload : List ℕ) → IsTrue (raw_admits ask) → IsReplyOutcome ask (payload_fit payload)
 raw_replies (asks.Raw asked) payload admitted = payload_replies asked payload
 raw_replies (asks.Read items) payload admitted = absurd (cc)
 raw_replies (asks.Write items values) payload admitted = absurd (cc)

@@ -70,8 +70,8 @@ IsReplyWith ask LeaseGone values = ⊥
 IsReplyWith ask (Lost reason) values = ⊥
 
 -- an outcome of a reply, by its kind and values
-abbrev pub IsReplyKind : Ask → Outcome → Type 0
-IsReplyKind ask outcome = IsReplyWith ask outcome.kind outcome.values
+abbrev pub IsReplyOutcome : Ask → Outcome → Type 0
+IsReplyOutcome ask outcome = IsReplyWith ask outcome.kind outcome.values
 
 -- an outcome has no values, or it is done and has as many rows of them as answer the ask
 abbrev pub HasValuesFor : Ask → Outcome → Type 0

@@ -18,7 +18,8 @@ pub enum PlcType {
     Lreal,
 }
 
-/// Where in a controller values lie.
+/// Where in a controller values lie: the four primary tables of the MODBUS Application Protocol, and the inputs, outputs, flags
+/// and data blocks of an S7 controller.
 #[derive(Clone, Copy, Debug, PartialEq, Eq)]
 pub enum Area {
     Coil,

@@ -3,9 +3,11 @@ ghost use Rattle.std.specs.Prelude.{ℕ, ◌≡◌, ◌<◌, ◌≤◌, ◌^◌,
 use crate::asks::Ask;
 use crate::ends::{FrameWhy, Outcome};
 use node_tree::{ByteList, Reading, WriteWhy};
-use std::alloc::{AllocError, AllocFailed, Global};
+use std::alloc::{AllocError, Global};
 
-/// How frames of a wire tell their length.
+/// How frames of a wire tell their length, in 16 bits with the higher byte first: `Raw`, at byte 0, all of the frame's bytes;
+/// `Modbus`, at byte 4, the bytes behind these two, as in the MBAP header of "MODBUS Messaging on TCP/IP"; `Tpkt`, at byte 2, all
+/// of the frame's bytes, as RFC 1006 says.
 #[derive(Clone, Copy, Debug, PartialEq, Eq)]
 pub enum LengthRule {
     Raw,
@@ -46,16 +48,6 @@ impl From<AllocError> for FrameFault {
     }
 }
 
-impl<T: Drop> From<AllocFailed<T>> for FrameFault {
-    ghost use Rattle.wire_frames.specs.declared.wires.FrameFault.TheVariants.{NoMemory};
-
-    ghost from_gives = { λ _ e. e ≡ NoMemory };
-
-    fn from(_error: AllocFailed<T>) -> FrameFault {
-        FrameFault::NoMemory
-    }
-}
-
 impl From<AllocError> for ReplyFault {
     ghost use Rattle.wire_frames.specs.declared.wires.ReplyFault.TheVariants.{NoMemory};
 
@@ -66,22 +58,12 @@ impl From<AllocError> for ReplyFault {
     }
 }
 
-impl<T: Drop> From<AllocFailed<T>> for ReplyFault {
-    ghost use Rattle.wire_frames.specs.declared.wires.ReplyFault.TheVariants.{NoMemory};
-
-    ghost from_gives = { λ _ e. e ≡ NoMemory };
-
-    fn from(_error: AllocFailed<T>) -> ReplyFault {
-        ReplyFault::NoMemory
-    }
-}
-
 /// A protocol: how asks are spelled as frames, how frames are read, and what a frame makes of an ask.
 /// Its `meaning` says all of this as functions, and each method gives what they give. Want of memory
 /// alone is free.
 pub trait Wire: Drop + Send {
     ghost use Rattle.node_tree.specs.declared.readings.Reading.{Reading};
-    ghost use Rattle.wire_frames.specs.WireMeaning.{WireMeaning, FramesAs, ReadsAs, IsReplyKind};
+    ghost use Rattle.wire_frames.specs.WireMeaning.{WireMeaning, FramesAs, ReadsAs, IsReplyOutcome};
     ghost use Rattle.wire_frames.specs.declared.asks.Ask.{Ask};
 
     ghost meaning: { Self → WireMeaning };
@@ -121,8 +103,11 @@ pub trait Wire: Drop + Send {
 
     /// A reply ends a request in one of the four ways of a reply, with values only where it is done: none, or a row per
     /// item of the ask, or one row for a raw ask.
-    ghost replies: { (wire : Self) (ask : Ask) (reading : Reading) → IsTrue ((meaning wire).admits ask) → IsReplyKind ask ((meaning wire).fit ask reading) };
+    ghost replies: { (wire : Self) (ask : Ask) (reading : Reading)
+        → IsTrue ((meaning wire).admits ask) → IsReplyOutcome ask ((meaning wire).fit ask reading) };
 
     /// A frame under a reference, a number of 16 bits above 0, has no more bytes than the wire says of its ask.
-    ghost sized: { (wire : Self) (ask : Ask) (reference : ℕ) (frame : List ℕ) → 0 < reference → reference < 2 ^ 16 → IsTrue ((meaning wire).admits ask) → (meaning wire).frame_of ask reference ≡ Ok frame → length frame ≤ (meaning wire).size ask };
+    ghost sized: { (wire : Self) (ask : Ask) (reference : ℕ) (frame : List ℕ)
+        → 0 < reference → reference < 2 ^ 16 → IsTrue ((meaning wire).admits ask)
+        → (meaning wire).frame_of ask reference ≡ Ok frame → length frame ≤ (meaning wire).size ask };
 }

@@ -1,5 +1,5 @@
 use Rattle.std.proofs.Common.{◌≡◌, ◌+◌, ◌++◌, true, false, arith, length, sym, ap, ◌∙◌}
-use Rattle.conn_core.specs.Journals.{settled_if, turn_if, wears}
+use Rattle.conn_core.specs.Journals.{after_turn_if, turn_if, wears}
 use Rattle.conn_core.specs.Rooms.{closes_of, lists_of}
 use Rattle.conn_core.proofs.TurnLemmas.{closes_where_worn, worn_written}
 use Rattle.conn_core.proofs.kept.record.Goals as goal
@@ -27,7 +27,7 @@ returns-then-full-clause-table c =
     let ok = c.args.journal.now.ok.0 in
     let len : c.len.result + 1 ≡ length old + 1 = omega arith in
     let worn : wears s (length old + 1) t ≡ true = sym (ap (λ n. wears s n t) len) ∙ sym c.wears-full.ensures ∙ c.if-full.true in
-    c.close.ensures.table ∙ sym (ap (λ b. settled_if b t) worn)
+    c.close.ensures.table ∙ sym (ap (λ b. after_turn_if b t) worn)
 
 pub returns-else-full-clause-journal : goal.returns-else-full-clause-journal
 returns-else-full-clause-journal c =
@@ -47,4 +47,4 @@ returns-else-full-clause-table c =
     let ok = c.args.journal.now.ok.0 in
     let len : c.len.result + 1 ≡ length old + 1 = omega arith in
     let worn : wears s (length old + 1) t ≡ false = sym (ap (λ n. wears s n t) len) ∙ sym c.wears-full.ensures ∙ c.if-full.false in
-    sym (ap (λ b. settled_if b t) worn)
+    sym (ap (λ b. after_turn_if b t) worn)

@@ -8,7 +8,7 @@ use Rattle.conn_core.specs.Tables.{at_moment, waiters_limit}
 use Rattle.conn_core.specs.declared.answers.AskRefusal.TheVariants as refusals
 use Rattle.conn_core.specs.declared.answers.LeaseAnswer.TheVariants as lease_answers
 use Rattle.conn_core.specs.declared.entries.Event.TheVariants as events
-use Rattle.conn_core.proofs.CauseLemmas.{ask_cause, closed_cause, seen, waits_cause}
+use Rattle.conn_core.proofs.CauseLemmas.{ask_cause, closed_cause, kept_bounds, seen, waits_cause}
 use Rattle.conn_core.proofs.RefusalLemmas.{given_ok, given_refused, shut}
 use Rattle.conn_core.proofs.StateLemmas.{called_turns, goes_on, leads}
 use Rattle.conn_core.proofs.conn.ConnState.ask_lease.Goals as goal
@@ -73,5 +73,5 @@ returns-clause-waiting g c =
     let t = lists_of k.table in
     λ lease place is.
     let given = given_ok refusals.NoMemory (lease_answers.Waiting lease place) (answer_of (ask_lease s t c.args.actor c.args.now)) (subst (λ r. IsGivenOrNoMemory refusals.NoMemory r (answer_of (ask_lease s t c.args.actor c.args.now))) is c.ask_lease.ensures.answer) in
-    let waits = waits_cause s t c.args.actor c.args.now lease place (sym given) in
+    let waits = waits_cause s t c.args.actor c.args.now lease place (kept_bounds (connection_of g.W.Wire.meaning key) k c.self.invariant) (sym given) in
     subst (λ (v : State _). MustWait v.key.settings (table_in g.W.Wire.meaning v) × (place ≡ length (table_in g.W.Wire.meaning v).waiting)) c.self.view_is (subst (λ u. MustWait s u × (place ≡ length u.waiting)) (sym c.self.invariant.table) waits)

@@ -10,7 +10,7 @@ use Rattle.conn_core.specs.Tables.{is_queued, is_sent}
 use Rattle.conn_core.specs.declared.answers.SendRefusal.TheVariants as refusals
 use Rattle.conn_core.specs.declared.entries.Answer.TheVariants as answers
 use Rattle.conn_core.specs.declared.entries.Event.TheVariants as events
-use Rattle.conn_core.proofs.CauseLemmas.{closed_cause, kept_rows, send_cause}
+use Rattle.conn_core.proofs.CauseLemmas.{closed_cause, kept_bounds, kept_rows, send_cause}
 use Rattle.conn_core.proofs.HandedLemmas.{sending_carried, sending_is}
 use Rattle.conn_core.proofs.RefusalLemmas.{shut}
 use Rattle.conn_core.proofs.StateLemmas.{called_turns, goes_on, leads}
@@ -45,7 +45,7 @@ returns-clause-closed g c =
     let s = c.self.inside.settings in
     let key : Key _ = record { wire = c.self.inside.wire; settings = s } in
     let t = lists_of k.table in
-    λ reason is. (closed_cause g.W.Wire.meaning key k c.self.invariant c.self.view_is reason).0 (send_cause s t (refusals.Closed reason) (sym c.take_send.ensures.answer ∙ is))
+    λ reason is. (closed_cause g.W.Wire.meaning key k c.self.invariant c.self.view_is reason).0 (send_cause s t (refusals.Closed reason) (kept_bounds (connection_of g.W.Wire.meaning key) k c.self.invariant) (sym c.take_send.ensures.answer ∙ is))
 
 pub returns-clause-once_closed : goal.returns-clause-once_closed
 returns-clause-once_closed g c =
@@ -65,7 +65,7 @@ returns-clause-nothing g c =
     let t = lists_of k.table in
     λ is.
     subst (λ (v : State _). CannotSend v.key.settings (table_in g.W.Wire.meaning v)) c.self.view_is
-    (subst (CannotSend s) (sym c.self.invariant.table) (send_cause s t refusals.Nothing (sym c.take_send.ensures.answer ∙ is)))
+    (subst (CannotSend s) (sym c.self.invariant.table) (send_cause s t refusals.Nothing (kept_bounds (connection_of g.W.Wire.meaning key) k c.self.invariant) (sym c.take_send.ensures.answer ∙ is)))
 
 pub returns-clause-sending : goal.returns-clause-sending
 returns-clause-sending g c =
