@@ -16,15 +16,19 @@ use conn_core::{
 use std::alloc::AllocError;
 use wire_frames::{EndKind, FrameWhy, Outcome, Reason};
 
-/// Where an addition found no memory, takes back what it left behind the text's first bytes.
-fn settle(
+/// Adds a text that is appended part by part, or none of it where a part finds no memory.
+fn add_whole<F: FnOnce(&mut Vec<u8>) -> Result<(), AllocError>>(
     text: &mut Vec<u8>,
-    before: usize,
-    added: Result<(), AllocError>,
+    addition: F,
 ) -> Result<(), AllocError>
-    ensures { (old words : List ℕ) → before ≡ length old → Appends added old text.old.items words
-        → AppendsOrKeeps result old text.new.items words }
+    requires { F.IsAlwaysCallable addition }
+    // The words are those that the addition appends to whatever text it is shown.
+    ensures { (words : List ℕ)
+        → ((shown left : _) (added : _) → F.post addition shown added left → Appends added shown.now.items left.now.items words)
+        → AppendsOrKeeps result text.old.items text.new.items words }
 {
+    let before = text.len();
+    let added = addition(text);
     if added.is_err() {
         text.truncate(before);
     }
@@ -38,9 +42,7 @@ pub fn add_asked(
 ) -> Result<(), AllocError>
     ensures { AppendsOrKeeps result text.old.items text.new.items (asked_text answer.now) }
 {
-    let before = text.len();
-    let added = append_asked(text, answer);
-    settle(text, before, added)
+    add_whole(text, |text| append_asked(text, answer))
 }
 
 /// Adds what a caller that handed in a request is told. An `Err` changes nothing.
@@ -50,18 +52,14 @@ pub fn add_submitted(
 ) -> Result<(), AllocError>
     ensures { AppendsOrKeeps result text.old.items text.new.items (submitted_text answer.now) }
 {
-    let before = text.len();
-    let added = append_submitted(text, answer);
-    settle(text, before, added)
+    add_whole(text, |text| append_submitted(text, answer))
 }
 
 /// Adds what is said of the next frame to write. An `Err` changes nothing.
 pub fn add_sent(text: &mut Vec<u8>, answer: &Result<Sending, SendRefusal>) -> Result<(), AllocError>
     ensures { AppendsOrKeeps result text.old.items text.new.items (sent_text answer.now) }
 {
-    let before = text.len();
-    let added = append_sent(text, answer);
-    settle(text, before, added)
+    add_whole(text, |text| append_sent(text, answer))
 }
 
 /// Adds what a frame that came did. An `Err` changes nothing.
@@ -71,9 +69,7 @@ pub fn add_received(
 ) -> Result<(), AllocError>
     ensures { AppendsOrKeeps result text.old.items text.new.items (received_text answer.now) }
 {
-    let before = text.len();
-    let added = append_received(text, answer);
-    settle(text, before, added)
+    add_whole(text, |text| append_received(text, answer))
 }
 
 /// Adds what a caller that cancelled a request is told. An `Err` changes nothing.
@@ -83,9 +79,7 @@ pub fn add_cancelled(
 ) -> Result<(), AllocError>
     ensures { AppendsOrKeeps result text.old.items text.new.items (cancelled_text answer.now) }
 {
-    let before = text.len();
-    let added = append_cancelled(text, answer);
-    settle(text, before, added)
+    add_whole(text, |text| append_cancelled(text, answer))
 }
 
 /// Adds what a caller that collects a request is told. An `Err` changes nothing.
@@ -95,43 +89,33 @@ pub fn add_collected(
 ) -> Result<(), AllocError>
     ensures { AppendsOrKeeps result text.old.items text.new.items (collected_text answer.now) }
 {
-    let before = text.len();
-    let added = append_collected(text, answer);
-    settle(text, before, added)
+    add_whole(text, |text| append_collected(text, answer))
 }
 
 /// Adds how a request ended. An `Err` changes nothing.
 pub fn add_kind(text: &mut Vec<u8>, kind: EndKind) -> Result<(), AllocError>
     ensures { AppendsOrKeeps result text.old.items text.new.items (kind_text kind) }
 {
-    let before = text.len();
-    let added = append_kind(text, kind);
-    settle(text, before, added)
+    add_whole(text, |text| append_kind(text, kind))
 }
 
 /// Adds how a request ended, and a word for each item where it is done. An `Err` changes nothing.
 pub fn add_outcome(text: &mut Vec<u8>, outcome: &Outcome) -> Result<(), AllocError>
     ensures { AppendsOrKeeps result text.old.items text.new.items (outcome_text outcome.now) }
 {
-    let before = text.len();
-    let added = append_outcome(text, outcome);
-    settle(text, before, added)
+    add_whole(text, |text| append_outcome(text, outcome))
 }
 
 /// Adds why a frame can't be read. An `Err` changes nothing.
 pub fn add_frame_why(text: &mut Vec<u8>, why: FrameWhy) -> Result<(), AllocError>
     ensures { AppendsOrKeeps result text.old.items text.new.items (frame_why_text why) }
 {
-    let before = text.len();
-    let added = append_frame_why(text, why);
-    settle(text, before, added)
+    add_whole(text, |text| append_frame_why(text, why))
 }
 
 /// Adds why a connection closed. An `Err` changes nothing.
 pub fn add_reason(text: &mut Vec<u8>, reason: Reason) -> Result<(), AllocError>
     ensures { AppendsOrKeeps result text.old.items text.new.items (reason_text reason) }
 {
-    let before = text.len();
-    let added = append_reason(text, reason);
-    settle(text, before, added)
+    add_whole(text, |text| append_reason(text, reason))
 }
