@@ -1,20 +1,19 @@
 ghost use Rattle.std.specs.Prelude.{◌≡◌, ℕ, List, length};
 ghost use Rattle.node_tree.specs.Appends.{Appends, AppendsOrKeeps};
 ghost use Rattle.answer_texts.specs.Answers.{asked_text, submitted_text, sent_text, received_text, cancelled_text, collected_text};
-ghost use Rattle.answer_texts.specs.Texts.{frame_why_text, kind_text, outcome_text, reason_text};
+ghost use Rattle.answer_texts.specs.Texts.{outcome_text};
 
 use crate::answers::{
     append_asked, append_cancelled, append_collected, append_received, append_sent,
     append_submitted,
 };
-use crate::outcomes::{append_kind, append_outcome};
-use crate::reasons::{append_frame_why, append_reason};
+use crate::outcomes::append_outcome;
 use conn_core::{
     Accepted, AskRefusal, CancelRefusal, FrameAnswer, FrameRefusal, LeaseAnswer, SendRefusal,
     Sending, SubmitRefusal, TakeRefusal,
 };
 use std::alloc::AllocError;
-use wire_frames::{EndKind, FrameWhy, Outcome, Reason};
+use wire_frames::Outcome;
 
 /// Adds a text that is appended part by part, or none of it where a part finds no memory.
 fn add_whole<F: FnOnce(&mut Vec<u8>) -> Result<(), AllocError>>(
@@ -92,30 +91,10 @@ pub fn add_collected(
     add_whole(text, |text| append_collected(text, answer))
 }
 
-/// Adds how a request ended. An `Err` changes nothing.
-pub fn add_kind(text: &mut Vec<u8>, kind: EndKind) -> Result<(), AllocError>
-    ensures { AppendsOrKeeps result text.old.items text.new.items (kind_text kind) }
-{
-    add_whole(text, |text| append_kind(text, kind))
-}
-
-/// Adds how a request ended, and a word for each item where it is done. An `Err` changes nothing.
+/// Adds what a caller that waited for its request is told: how it ended, and a word for each item where it is done. An
+/// `Err` changes nothing.
 pub fn add_outcome(text: &mut Vec<u8>, outcome: &Outcome) -> Result<(), AllocError>
     ensures { AppendsOrKeeps result text.old.items text.new.items (outcome_text outcome.now) }
 {
     add_whole(text, |text| append_outcome(text, outcome))
-}
-
-/// Adds why a frame can't be read. An `Err` changes nothing.
-pub fn add_frame_why(text: &mut Vec<u8>, why: FrameWhy) -> Result<(), AllocError>
-    ensures { AppendsOrKeeps result text.old.items text.new.items (frame_why_text why) }
-{
-    add_whole(text, |text| append_frame_why(text, why))
-}
-
-/// Adds why a connection closed. An `Err` changes nothing.
-pub fn add_reason(text: &mut Vec<u8>, reason: Reason) -> Result<(), AllocError>
-    ensures { AppendsOrKeeps result text.old.items text.new.items (reason_text reason) }
-{
-    add_whole(text, |text| append_reason(text, reason))
 }

@@ -38,7 +38,7 @@ fn eval_fault_text(fault: EvalFault) -> &'static [u8]
 }
 
 /// The name of why a value can't be written.
-pub fn write_why_text(why: WriteWhy) -> &'static [u8]
+pub(crate) fn write_why_text(why: WriteWhy) -> &'static [u8]
     ensures { result.now ≡ write_why_text why }
 {
     match why {
