@@ -1,4 +1,4 @@
-//! How the answers of a request table are spelled: one line each, of words that stand apart by one blank where no frame and no
+//! How the answers of a request table are spelled: one line each, of words that stand apart by one space where no frame and no
 //! item's values are empty.
 #![tactic(auto)]
 
