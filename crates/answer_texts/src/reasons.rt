@@ -91,7 +91,7 @@ pub(crate) fn append_pair(
 }
 
 /// Adds why a frame can't be read. An `Err` leaves a text that begins as before.
-pub(crate) fn append_frame_why(text: &mut Vec<u8>, why: FrameWhy) -> Result<(), AllocError>
+fn append_frame_why(text: &mut Vec<u8>, why: FrameWhy) -> Result<(), AllocError>
     ensures { Appends result text.old.items text.new.items (frame_why_text why) }
 {
     match why {
