@@ -1,4 +1,4 @@
--- What holds of each word, and of two texts with a blank between them, holds of each answer.
+-- What holds of each word, and of two texts with a space between them, holds of each answer.
 use Rattle.std.proofs.Common.{◌≡◌, ℕ, true, List, [], ◌∷◌, ◌++◌, refl, subst, append_assoc, codes, Result, Ok, Err}
 use Rattle.std.specs.Prelude.{IfOk}
 use Rattle.std.specs.Fmt.{decimal}

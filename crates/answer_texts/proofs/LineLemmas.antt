@@ -1,4 +1,4 @@
--- Texts without a line feed, and texts whose words stand apart by one blank.
+-- Texts without a line feed, and texts whose words stand apart by one space.
 use Rattle.std.proofs.Common.{◌≡◌, ◌≢◌, ℕ, ◌==◌, Bool, true, false, cond, List, [], ◌∷◌, ◌++◌, length, refl, ap, ◌∙◌, subst, sym, arith, Result, Ok, Err}
 use Rattle.std.specs.Prelude.{IfOk}
 use Rattle.std.specs.List.{AllByRecursion, onto_first, slice_split}
@@ -36,7 +36,7 @@ pub feedless_rows : (answer : Result Outcome TakeRefusal) → IfOk answer (λ ou
 feedless_rows (Ok outcome) = each_feedless outcome.values
 feedless_rows (Err refusal) = tt
 
--- ---- the parts between blanks
+-- ---- the parts between spaces
 
 abbrev parts : List ℕ → List (List ℕ)
 parts bytes = slice_split (λ b. b == 32) bytes
@@ -61,7 +61,7 @@ pub spaced_apart : (xs ys : List ℕ) → IsSpaced xs → IsSpaced ys → IsSpac
 spaced_apart xs ys h k =
     subst (AllByRecursion (λ (word : List ℕ). word ≢ [])) (sym (parts_apart xs ys)) (all-append (λ word. word ≢ []) (parts xs) (parts ys) h k)
 
--- a word has no blank
+-- a word has no space
 one_part : (bytes : List ℕ) → AreInner bytes → parts bytes ≡ bytes ∷ []
 one_part [] h = refl
 one_part (b ∷ bytes) h = let other : (b == 32) ≡ false = grind (arith, nat_tests) in rw other (ap (onto_first b) (one_part bytes h.1))

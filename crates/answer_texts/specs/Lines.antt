@@ -6,7 +6,7 @@ use Rattle.std.specs.List.{AllByRecursion, slice_split}
 abbrev pub IsFeedless : List ℕ → Type 0
 IsFeedless bytes = AllByRecursion (λ b. b ≢ 10) bytes
 
--- words that stand apart by one blank: what stands between blanks is never empty
+-- words that stand apart by one space: what stands between spaces is never empty
 abbrev pub IsSpaced : List ℕ → Type 0
 IsSpaced bytes = AllByRecursion (λ word. word ≢ []) (slice_split (λ b. b == 32) bytes)
 

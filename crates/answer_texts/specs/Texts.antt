@@ -97,7 +97,7 @@ value_text (Raw bits width) = raw_text bits width
 abbrev pub values_text : List PlcValue → List ℕ
 values_text values = join_with_byte 44 (map value_text values)
 
--- a word for each item, each behind a blank
+-- a word for each item, each behind a space
 abbrev pub items_text : List (List PlcValue) → List ℕ
 items_text items = flat_map (λ values. codes " " ++ values_text values) items
 

@@ -1,30 +1,33 @@
 ghost use Rattle.std.specs.Prelude.{◌≡◌, ℕ, List, length};
 ghost use Rattle.node_tree.specs.Appends.{Appends, AppendsOrKeeps};
 ghost use Rattle.answer_texts.specs.Answers.{asked_text, submitted_text, sent_text, received_text, cancelled_text, collected_text};
-ghost use Rattle.answer_texts.specs.Texts.{frame_why_text, kind_text, outcome_text, reason_text};
+ghost use Rattle.answer_texts.specs.Texts.{outcome_text};
 
 use crate::answers::{
     append_asked, append_cancelled, append_collected, append_received, append_sent,
     append_submitted,
 };
-use crate::outcomes::{append_kind, append_outcome};
-use crate::reasons::{append_frame_why, append_reason};
+use crate::outcomes::append_outcome;
 use conn_core::{
     Accepted, AskRefusal, CancelRefusal, FrameAnswer, FrameRefusal, LeaseAnswer, SendRefusal,
     Sending, SubmitRefusal, TakeRefusal,
 };
 use std::alloc::AllocError;
-use wire_frames::{EndKind, FrameWhy, Outcome, Reason};
+use wire_frames::Outcome;
 
-/// Where an addition found no memory, takes back what it left behind the text's first bytes.
-fn settle(
+/// Adds a text that is appended part by part, or none of it where a part finds no memory.
+fn add_whole<F: FnOnce(&mut Vec<u8>) -> Result<(), AllocError>>(
     text: &mut Vec<u8>,
-    before: usize,
-    added: Result<(), AllocError>,
+    addition: F,
 ) -> Result<(), AllocError>
-    ensures { (old words : List ℕ) → before ≡ length old → Appends added old text.old.items words
-        → AppendsOrKeeps result old text.new.items words }
+    requires { F.IsAlwaysCallable addition }
+    // The words are those that the addition appends to whatever text it is shown.
+    ensures { (words : List ℕ)
+        → ((shown left : _) (added : _) → F.post addition shown added left → Appends added shown.now.items left.now.items words)
+        → AppendsOrKeeps result text.old.items text.new.items words }
 {
+    let before = text.len();
+    let added = addition(text);
     if added.is_err() {
         text.truncate(before);
     }
@@ -38,9 +41,7 @@ pub fn add_asked(
 ) -> Result<(), AllocError>
     ensures { AppendsOrKeeps result text.old.items text.new.items (asked_text answer.now) }
 {
-    let before = text.len();
-    let added = append_asked(text, answer);
-    settle(text, before, added)
+    add_whole(text, |text| append_asked(text, answer))
 }
 
 /// Adds what a caller that handed in a request is told. An `Err` changes nothing.
@@ -50,18 +51,14 @@ pub fn add_submitted(
 ) -> Result<(), AllocError>
     ensures { AppendsOrKeeps result text.old.items text.new.items (submitted_text answer.now) }
 {
-    let before = text.len();
-    let added = append_submitted(text, answer);
-    settle(text, before, added)
+    add_whole(text, |text| append_submitted(text, answer))
 }
 
 /// Adds what is said of the next frame to write. An `Err` changes nothing.
 pub fn add_sent(text: &mut Vec<u8>, answer: &Result<Sending, SendRefusal>) -> Result<(), AllocError>
     ensures { AppendsOrKeeps result text.old.items text.new.items (sent_text answer.now) }
 {
-    let before = text.len();
-    let added = append_sent(text, answer);
-    settle(text, before, added)
+    add_whole(text, |text| append_sent(text, answer))
 }
 
 /// Adds what a frame that came did. An `Err` changes nothing.
@@ -71,9 +68,7 @@ pub fn add_received(
 ) -> Result<(), AllocError>
     ensures { AppendsOrKeeps result text.old.items text.new.items (received_text answer.now) }
 {
-    let before = text.len();
-    let added = append_received(text, answer);
-    settle(text, before, added)
+    add_whole(text, |text| append_received(text, answer))
 }
 
 /// Adds what a caller that cancelled a request is told. An `Err` changes nothing.
@@ -83,9 +78,7 @@ pub fn add_cancelled(
 ) -> Result<(), AllocError>
     ensures { AppendsOrKeeps result text.old.items text.new.items (cancelled_text answer.now) }
 {
-    let before = text.len();
-    let added = append_cancelled(text, answer);
-    settle(text, before, added)
+    add_whole(text, |text| append_cancelled(text, answer))
 }
 
 /// Adds what a caller that collects a request is told. An `Err` changes nothing.
@@ -95,43 +88,13 @@ pub fn add_collected(
 ) -> Result<(), AllocError>
     ensures { AppendsOrKeeps result text.old.items text.new.items (collected_text answer.now) }
 {
-    let before = text.len();
-    let added = append_collected(text, answer);
-    settle(text, before, added)
+    add_whole(text, |text| append_collected(text, answer))
 }
 
-/// Adds how a request ended. An `Err` changes nothing.
-pub fn add_kind(text: &mut Vec<u8>, kind: EndKind) -> Result<(), AllocError>
-    ensures { AppendsOrKeeps result text.old.items text.new.items (kind_text kind) }
-{
-    let before = text.len();
-    let added = append_kind(text, kind);
-    settle(text, before, added)
-}
-
-/// Adds how a request ended, and a word for each item where it is done. An `Err` changes nothing.
+/// Adds what a caller that waited for its request is told: how it ended, and a word for each item where it is done. An
+/// `Err` changes nothing.
 pub fn add_outcome(text: &mut Vec<u8>, outcome: &Outcome) -> Result<(), AllocError>
     ensures { AppendsOrKeeps result text.old.items text.new.items (outcome_text outcome.now) }
 {
-    let before = text.len();
-    let added = append_outcome(text, outcome);
-    settle(text, before, added)
-}
-
-/// Adds why a frame can't be read. An `Err` changes nothing.
-pub fn add_frame_why(text: &mut Vec<u8>, why: FrameWhy) -> Result<(), AllocError>
-    ensures { AppendsOrKeeps result text.old.items text.new.items (frame_why_text why) }
-{
-    let before = text.len();
-    let added = append_frame_why(text, why);
-    settle(text, before, added)
-}
-
-/// Adds why a connection closed. An `Err` changes nothing.
-pub fn add_reason(text: &mut Vec<u8>, reason: Reason) -> Result<(), AllocError>
-    ensures { AppendsOrKeeps result text.old.items text.new.items (reason_text reason) }
-{
-    let before = text.len();
-    let added = append_reason(text, reason);
-    settle(text, before, added)
+    add_whole(text, |text| append_outcome(text, outcome))
 }

@@ -24,7 +24,7 @@ pub fn answers_are_lines()
     ensures collected { (answer : Result Outcome TakeRefusal) → IsFeedless (collected_text answer) }
 {}
 
-/// The words of an answer stand apart by one blank, where its frame and the values of each item aren't empty.
+/// The words of an answer stand apart by one space, where its frame and the values of each item aren't empty.
 pub fn words_stand_apart()
     ensures asked { (answer : Result LeaseAnswer AskRefusal) → IsSpaced (asked_text answer) }
     ensures submitted { (answer : Result Accepted SubmitRefusal) → IsSpaced (submitted_text answer) }

@@ -1,4 +1,4 @@
-//! How the answers of a request table are spelled: one line each, of words that stand apart by one blank where no frame and no
+//! How the answers of a request table are spelled: one line each, of words that stand apart by one space where no frame and no
 //! item's values are empty.
 #![tactic(auto)]
 
@@ -12,8 +12,7 @@ mod tests;
 mod values;
 
 pub use additions::{
-    add_asked, add_cancelled, add_collected, add_frame_why, add_kind, add_outcome, add_reason,
-    add_received, add_sent, add_submitted,
+    add_asked, add_cancelled, add_collected, add_outcome, add_received, add_sent, add_submitted,
 };
 pub use laws::{answers_are_lines, words_stand_apart};
-pub use reasons::{read_why_text, write_why_text};
+pub use reasons::read_why_text;

@@ -2,7 +2,7 @@ ghost use Rattle.std.specs.Prelude.{◌≡◌, ◌++◌, codes, decimal};
 ghost use Rattle.node_tree.specs.Appends.{Appends};
 ghost use Rattle.answer_texts.specs.Texts.{eval_fault_text, read_why_text, write_why_text, frame_why_text, reason_text};
 
-use itoa::Buffer;
+use crate::values::append_number;
 use node_tree::{EvalFault, ReadWhy, WriteWhy};
 use std::alloc::AllocError;
 use wire_frames::{FrameWhy, Reason};
@@ -38,7 +38,7 @@ fn eval_fault_text(fault: EvalFault) -> &'static [u8]
 }
 
 /// The name of why a value can't be written.
-pub fn write_why_text(why: WriteWhy) -> &'static [u8]
+pub(crate) fn write_why_text(why: WriteWhy) -> &'static [u8]
     ensures { result.now ≡ write_why_text why }
 {
     match why {
@@ -55,13 +55,6 @@ pub fn write_why_text(why: WriteWhy) -> &'static [u8]
     }
 }
 
-fn append_number(text: &mut Vec<u8>, number: u64) -> Result<(), AllocError>
-    ensures { Appends result text.old.items text.new.items (decimal number) }
-{
-    let mut buffer = Buffer::new();
-    text.extend_from_slice(buffer.format(number).as_bytes())
-}
-
 /// Adds words and a number. An `Err` leaves a text that begins as before.
 pub(crate) fn append_numbered(
     text: &mut Vec<u8>,
@@ -74,7 +67,7 @@ pub(crate) fn append_numbered(
     append_number(text, number)
 }
 
-/// Adds words, a number and a blank. An `Err` leaves a text that begins as before.
+/// Adds words, a number and a space. An `Err` leaves a text that begins as before.
 pub(crate) fn append_spaced(text: &mut Vec<u8>, words: &[u8], number: u64) -> Result<(), AllocError>
     ensures { Appends result text.old.items text.new.items
         (words.now ++ decimal number ++ codes " ") }
@@ -98,7 +91,7 @@ pub(crate) fn append_pair(
 }
 
 /// Adds why a frame can't be read. An `Err` leaves a text that begins as before.
-pub(crate) fn append_frame_why(text: &mut Vec<u8>, why: FrameWhy) -> Result<(), AllocError>
+fn append_frame_why(text: &mut Vec<u8>, why: FrameWhy) -> Result<(), AllocError>
     ensures { Appends result text.old.items text.new.items (frame_why_text why) }
 {
     match why {

@@ -1,6 +1,6 @@
 use crate::{
-    add_asked, add_cancelled, add_collected, add_frame_why, add_kind, add_outcome, add_reason,
-    add_received, add_sent, add_submitted, read_why_text, write_why_text,
+    add_asked, add_cancelled, add_collected, add_outcome, add_received, add_sent, add_submitted,
+    read_why_text,
 };
 use conn_core::{
     Accepted, AskRefusal, CancelRefusal, FrameAnswer, FrameRefusal, LeaseAnswer, SendRefusal,
@@ -13,80 +13,8 @@ use std::test::Fail;
 use wire_frames::{EndKind, FrameWhy, Outcome, PlcValue, Reason, ValueRows};
 
 #[test]
-fn names_why_a_value_cant_be_read_or_written(rt: HostRuntime) -> Result<(), Fail> {
+fn names_why_a_value_cant_be_read(rt: HostRuntime) -> Result<(), Fail> {
     assert_eq!(rt; read_why_text(ReadWhy::NoCase), b"NoCase".as_slice());
-    assert_eq!(rt; write_why_text(WriteWhy::Shape), b"Shape".as_slice());
-    let fault = EvalFault::CastFails;
-    assert_eq!(rt;
-        write_why_text(WriteWhy::Eval(fault)),
-        b"CastFails".as_slice()
-    );
-    Ok(())
-}
-
-#[test]
-fn spells_why_a_frame_cant_be_read(rt: HostRuntime) -> Result<(), Fail> {
-    let cases: [(FrameWhy, &[u8]); 5] = [
-        (FrameWhy::Length { got: 3 }, b"length 3"),
-        (FrameWhy::Short, b"short"),
-        (FrameWhy::Unused { bits: 16 }, b"unused 16"),
-        (
-            FrameWhy::Bad {
-                bit: 40,
-                why: ReadWhy::NoCase,
-            },
-            b"bad 40 NoCase",
-        ),
-        (FrameWhy::NotReply, b"not reply"),
-    ];
-    for (why, wanted) in &cases {
-        let mut text = Vec::new(rt.alloc());
-        add_frame_why(&mut text, *why)?;
-        assert_eq!(rt; text.as_slice(), *wanted);
-    }
-    Ok(())
-}
-
-#[test]
-fn spells_why_a_connection_closed(rt: HostRuntime) -> Result<(), Fail> {
-    let why = FrameWhy::Length { got: 2 };
-    let cases: [(Reason, &[u8]); 7] = [
-        (Reason::PeerEnded, b"peer ended"),
-        (Reason::ReadFault, b"read fault"),
-        (Reason::WriteFault, b"write fault"),
-        (
-            Reason::Undecodable { index: 1, why },
-            b"undecodable 1 length 2",
-        ),
-        (Reason::Worn, b"worn"),
-        (Reason::Asked, b"asked"),
-        (Reason::NoMemory, b"no memory"),
-    ];
-    for (reason, wanted) in &cases {
-        let mut text = Vec::new(rt.alloc());
-        add_reason(&mut text, *reason)?;
-        assert_eq!(rt; text.as_slice(), *wanted);
-    }
-    Ok(())
-}
-
-#[test]
-fn spells_how_a_request_ended(rt: HostRuntime) -> Result<(), Fail> {
-    let cases: [(EndKind, &[u8]); 8] = [
-        (EndKind::Done, b"done"),
-        (EndKind::Written, b"written"),
-        (EndKind::Remote(7), b"remote 7"),
-        (EndKind::Mismatch { place: 1, got: 0 }, b"mismatch 1 0"),
-        (EndKind::Cancelled, b"cancelled"),
-        (EndKind::Expired, b"expired"),
-        (EndKind::LeaseGone, b"lease gone"),
-        (EndKind::Lost(Reason::Worn), b"lost worn"),
-    ];
-    for (kind, wanted) in &cases {
-        let mut text = Vec::new(rt.alloc());
-        add_kind(&mut text, *kind)?;
-        assert_eq!(rt; text.as_slice(), *wanted);
-    }
     Ok(())
 }
 
@@ -116,13 +44,24 @@ fn spells_a_word_for_each_item(rt: HostRuntime) -> Result<(), Fail> {
 
 #[test]
 fn answers_an_ask_for_a_lease(rt: HostRuntime) -> Result<(), Fail> {
-    let cases: [(Result<LeaseAnswer, AskRefusal>, &[u8]); 5] = [
+    let why = FrameWhy::Length { got: 2 };
+    let closed = |reason: Reason| Err(AskRefusal::Closed(reason));
+    let cases: [(Result<LeaseAnswer, AskRefusal>, &[u8]); 11] = [
         (Ok(LeaseAnswer::Granted { lease: 1 }), b"granted 1"),
         (
             Ok(LeaseAnswer::Waiting { lease: 2, place: 0 }),
             b"waiting 2 0",
         ),
-        (Err(AskRefusal::Closed(Reason::Asked)), b"closed asked"),
+        (closed(Reason::PeerEnded), b"closed peer ended"),
+        (closed(Reason::ReadFault), b"closed read fault"),
+        (closed(Reason::WriteFault), b"closed write fault"),
+        (
+            closed(Reason::Undecodable { index: 1, why }),
+            b"closed undecodable 1 length 2",
+        ),
+        (closed(Reason::Worn), b"closed worn"),
+        (closed(Reason::Asked), b"closed asked"),
+        (closed(Reason::NoMemory), b"closed no memory"),
         (Err(AskRefusal::QueueFull), b"queue full"),
         (Err(AskRefusal::NoMemory), b"no memory"),
     ];
@@ -140,15 +79,17 @@ fn answers_a_request(rt: HostRuntime) -> Result<(), Fail> {
         id: 3,
         reference: 65535,
     };
-    let why = WriteWhy::ValueRange;
-    let cases: [(Result<Accepted, SubmitRefusal>, &[u8]); 8] = [
+    let unwritable = |why: WriteWhy| Err(SubmitRefusal::Unwritable { entry: 1, why });
+    let cases: [(Result<Accepted, SubmitRefusal>, &[u8]); 10] = [
         (Ok(accepted), b"started 3 65535"),
         (Err(SubmitRefusal::Closed(Reason::Worn)), b"closed worn"),
         (Err(SubmitRefusal::NoLease), b"no lease"),
         (Err(SubmitRefusal::TableFull), b"table full"),
+        (unwritable(WriteWhy::ValueRange), b"unwritable ValueRange"),
+        (unwritable(WriteWhy::Shape), b"unwritable Shape"),
         (
-            Err(SubmitRefusal::Unwritable { entry: 1, why }),
-            b"unwritable ValueRange",
+            unwritable(WriteWhy::Eval(EvalFault::CastFails)),
+            b"unwritable CastFails",
         ),
         (
             Err(SubmitRefusal::TooLarge {
@@ -196,9 +137,13 @@ fn answers_with_the_next_frame(rt: HostRuntime) -> Result<(), Fail> {
 
 #[test]
 fn answers_a_frame(rt: HostRuntime) -> Result<(), Fail> {
-    let why = FrameWhy::NotReply;
     let kind = EndKind::Mismatch { place: 1, got: 0 };
-    let cases: [(Result<FrameAnswer, FrameRefusal>, &[u8]); 6] = [
+    let bad = FrameWhy::Bad {
+        bit: 40,
+        why: ReadWhy::NoCase,
+    };
+    let undecodable = |why: FrameWhy| Ok(FrameAnswer::Undecodable { index: 5, why });
+    let cases: [(Result<FrameAnswer, FrameRefusal>, &[u8]); 10] = [
         (
             Ok(FrameAnswer::Ended { id: 9, kind }),
             b"ended 9 mismatch 1 0",
@@ -206,9 +151,16 @@ fn answers_a_frame(rt: HostRuntime) -> Result<(), Fail> {
         (Ok(FrameAnswer::Late { reference: 1 }), b"late 1"),
         (Ok(FrameAnswer::Stray { reference: 4 }), b"stray 4"),
         (
-            Ok(FrameAnswer::Undecodable { index: 5, why }),
-            b"undecodable 5 not reply",
+            undecodable(FrameWhy::Length { got: 3 }),
+            b"undecodable 5 length 3",
         ),
+        (undecodable(FrameWhy::Short), b"undecodable 5 short"),
+        (
+            undecodable(FrameWhy::Unused { bits: 16 }),
+            b"undecodable 5 unused 16",
+        ),
+        (undecodable(bad), b"undecodable 5 bad 40 NoCase"),
+        (undecodable(FrameWhy::NotReply), b"undecodable 5 not reply"),
         (Err(FrameRefusal::Closed(Reason::Worn)), b"closed worn"),
         (Err(FrameRefusal::NoMemory), b"no memory"),
     ];
@@ -222,12 +174,20 @@ fn answers_a_frame(rt: HostRuntime) -> Result<(), Fail> {
 
 #[test]
 fn answers_a_cancellation(rt: HostRuntime) -> Result<(), Fail> {
-    let cases: [(Result<(), CancelRefusal>, &[u8]); 3] = [
+    let late = |kind: EndKind| Err(CancelRefusal::AlreadyEnded(kind));
+    let cases: [(Result<(), CancelRefusal>, &[u8]); 10] = [
         (Ok(()), b"cancelled"),
+        (late(EndKind::Done), b"ended done"),
+        (late(EndKind::Written), b"ended written"),
+        (late(EndKind::Remote(7)), b"ended remote 7"),
         (
-            Err(CancelRefusal::AlreadyEnded(EndKind::Remote(7))),
-            b"ended remote 7",
+            late(EndKind::Mismatch { place: 1, got: 0 }),
+            b"ended mismatch 1 0",
         ),
+        (late(EndKind::Cancelled), b"ended cancelled"),
+        (late(EndKind::Expired), b"ended expired"),
+        (late(EndKind::LeaseGone), b"ended lease gone"),
+        (late(EndKind::Lost(Reason::Worn)), b"ended lost worn"),
         (Err(CancelRefusal::NoRequest), b"no request"),
     ];
     for (answer, wanted) in &cases {

@@ -5,7 +5,7 @@ ghost use Rattle.hex.specs.Hex.{encode_lower};
 ghost use Rattle.node_tree.specs.Appends.{Appends};
 ghost use Rattle.answer_texts.specs.Texts.{items_text, raw_text, value_text, values_text};
 
-use itoa::Buffer;
+use itoa::{Buffer, Integer};
 use std::alloc::{AllocError, Global};
 use wire_frames::{PlcValue, ValueList};
 
@@ -15,6 +15,14 @@ pub(crate) fn append_hex(text: &mut Vec<u8>, bytes: &[u8]) -> Result<(), AllocEr
 {
     let digits = hex::encode(*text.allocator(), bytes)?;
     text.extend_from_slice(digits.as_bytes())
+}
+
+/// Adds a number in decimal digits. An `Err` leaves a text that begins as before.
+pub(crate) fn append_number<I: Integer>(text: &mut Vec<u8>, number: I) -> Result<(), AllocError>
+    ensures { Appends result text.old.items text.new.items (I.text number) }
+{
+    let mut buffer = Buffer::new();
+    text.extend_from_slice(buffer.format(number).as_bytes())
 }
 
 /// The digits of raw bits.
@@ -43,10 +51,7 @@ fn append_value(text: &mut Vec<u8>, value: PlcValue) -> Result<(), AllocError>
     match value {
         PlcValue::Bool(true) => text.extend_from_slice(b"true"),
         PlcValue::Bool(false) => text.extend_from_slice(b"false"),
-        PlcValue::Whole(number) => {
-            let mut buffer = Buffer::new();
-            text.extend_from_slice(buffer.format(number).as_bytes())
-        }
+        PlcValue::Whole(number) => append_number(text, number),
         PlcValue::Raw { bits, width } => append_raw(text, bits, width),
     }
 }

@@ -3,6 +3,7 @@ use Rattle.std.proofs.Common.{◌≡◌, ℕ, Bool, true, false, cond, List, [],
 use Rattle.std.specs.Str.{bytes_eq}
 use Rattle.std.proofs.lemmas.Option.{option_and_then_some}
 use Rattle.std.proofs.lemmas.Slice.Eq.{bytes_eq-Decides}
+use Rattle.conn_core.specs.Journals.{timeout_limit}
 use Rattle.conn_core.specs.Tables.{IsSettings}
 use Rattle.conn_core.specs.declared.settings.Settings.{Settings}
 use Rattle.script_lines.specs.declared.commands.Call.{Call}
@@ -35,7 +36,7 @@ pair-complete : (a b : List ℕ) (caller n : ℕ) → IsCaller a caller → IsLo
 unfolding pair_of
 pair-complete a b caller n h k = rw (caller-complete a caller h) (rw (number-complete b n k) refl)
 
-submit-complete : (a b c d e : List ℕ) (caller lease now timeout : ℕ) (payload : List ℕ) → IsCaller a caller → IsLong b lease → IsLong c now → within_of 1 3600000 d ≡ Some timeout → hex_of e ≡ Some payload → submit_of (a ∷ b ∷ c ∷ d ∷ e ∷ []) ≡ Some (Submit caller lease now timeout payload)
+submit-complete : (a b c d e : List ℕ) (caller lease now timeout : ℕ) (payload : List ℕ) → IsCaller a caller → IsLong b lease → IsLong c now → within_of 1 timeout_limit d ≡ Some timeout → hex_of e ≡ Some payload → submit_of (a ∷ b ∷ c ∷ d ∷ e ∷ []) ≡ Some (Submit caller lease now timeout payload)
 unfolding submit_of
 submit-complete a b c d e caller lease now timeout payload ha hb hc hd he =
     rw (caller-complete a caller ha) (rw (number-complete b lease hb) (rw (number-complete c now hc) (rw hd (rw he refl))))
@@ -69,7 +70,7 @@ spelling-complete words (Table s) h =
 spelling-complete words (Calls (AskLease caller now)) h =
     ap command_of h.2 ∙ rw (pair-complete h.0 h.1 caller now h.3 h.4) refl
 spelling-complete words (Calls (Submit caller lease now timeout payload)) h =
-    let t = within-complete 1 3600000 h.3 timeout (omega arith) h.9 in
+    let t = within-complete 1 timeout_limit h.3 timeout (omega arith) h.9 in
     ap command_of h.5 ∙ rw (submit-complete h.0 h.1 h.2 h.3 h.4 caller lease now timeout payload h.6 h.7 h.8 t (hex-complete h.4 payload h.10)) refl
 spelling-complete words (Calls TakeSend) h = ap command_of h
 spelling-complete words (Calls (Frame bytes)) h = ap command_of h.1 ∙ rw (hex-complete h.0 bytes h.2) refl
@@ -160,10 +161,10 @@ submit-sound (a ∷ b ∷ c ∷ d ∷ e ∷ []) call h =
     option_and_then_some _ (within_of 1 1000 a) call h (λ caller ha h1.
     option_and_then_some _ (number_of b) call h1 (λ lease hb h2.
     option_and_then_some _ (number_of c) call h2 (λ now hc h3.
-    option_and_then_some _ (within_of 1 3600000 d) call h3 (λ timeout hd h4.
+    option_and_then_some _ (within_of 1 timeout_limit d) call h3 (λ timeout hd h4.
     option_and_then_some _ (hex_of e) call h4 (λ payload he h5.
     let read : SpellsCall (codes "submit" ∷ a ∷ b ∷ c ∷ d ∷ e ∷ []) (Submit caller lease now timeout payload) =
-    (a, b, c, d, e, refl, within-sound 1 1000 a caller ha, number-sound b lease hb, number-sound c now hc, within-sound 1 3600000 d timeout hd, hex-sound e payload he) in
+    (a, b, c, d, e, refl, within-sound 1 1000 a caller ha, number-sound b lease hb, number-sound c now hc, within-sound 1 timeout_limit d timeout hd, hex-sound e payload he) in
     let same : Submit caller lease now timeout payload ≡ call = cc in
     subst (SpellsCall (codes "submit" ∷ a ∷ b ∷ c ∷ d ∷ e ∷ [])) same read)))))
 submit-sound (a ∷ b ∷ c ∷ d ∷ e ∷ f ∷ more) call h = cc

@@ -8,6 +8,7 @@ use Rattle.std.specs.Str.{bytes_eq}
 use Rattle.std.specs.Str.Parse.{digits_value}
 use Rattle.hex.specs.Hex.{decode_of}
 use Rattle.wire_frames.specs.RawFrames.{is_whole}
+use Rattle.conn_core.specs.Journals.{timeout_limit}
 use Rattle.conn_core.specs.declared.settings.Settings.{Settings}
 use Rattle.script_lines.specs.declared.commands.Call.{Call}
 use Rattle.script_lines.specs.declared.commands.Call.TheVariants.{AskLease, Submit, TakeSend, Frame, Cancel, Collect}
@@ -68,7 +69,7 @@ submit_of (a ∷ b ∷ c ∷ d ∷ e ∷ []) = do
   caller ← within_of 1 1000 a
   lease ← number_of b
   now ← number_of c
-  timeout ← within_of 1 3600000 d
+  timeout ← within_of 1 timeout_limit d
   payload ← hex_of e
   Some (Submit caller lease now timeout payload)
 submit_of _ = None

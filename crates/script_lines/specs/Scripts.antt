@@ -4,6 +4,7 @@ use Rattle.std.specs.List.{slice_split}
 use Rattle.std.specs.Str.Parse.{IsNumeral, digits_value}
 use Rattle.hex.specs.Hex.{decode_of}
 use Rattle.wire_frames.specs.RawFrames.{is_whole}
+use Rattle.conn_core.specs.Journals.{timeout_limit}
 use Rattle.conn_core.specs.Tables.{IsSettings}
 use Rattle.script_lines.specs.declared.commands.Call.{Call}
 use Rattle.script_lines.specs.declared.commands.Call.TheVariants.{AskLease, Submit, TakeSend, Frame, Cancel, Collect}
@@ -47,7 +48,7 @@ SpellsCall words (Submit caller lease now timeout payload) =
     × IsCaller a caller
     × IsLong b lease
     × IsLong c now
-    × IsWithin 1 3600000 d timeout
+    × IsWithin 1 timeout_limit d timeout
     × IsHex e payload
 SpellsCall words TakeSend = words ≡ codes "send" ∷ []
 SpellsCall words (Frame bytes) = (a : List ℕ) × (words ≡ codes "frame" ∷ a ∷ []) × IsHex a bytes

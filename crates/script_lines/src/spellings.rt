@@ -115,24 +115,18 @@ fn read_submit(alloc: Global, words: &[&[u8]]) -> Result<Call, LineFault>
     })
 }
 
-#[tactic(auto, unfolding(crate::specs::ReaderParts::call_of))]
+#[tactic(auto, using(crate::proofs::NameLaws::same_name), unfolding(crate::specs::ReaderParts::call_of))]
 fn read_call(alloc: Global, name: &[u8], words: &[&[u8]]) -> Result<Call, LineFault>
     ensures { IsGivenBy result (call_of name.now (map (λ w. w.now) words.now)) }
 {
-    if name == b"ask".as_slice() {
-        read_ask(words).ok_or(LineFault::Refused)
-    } else if name == b"submit".as_slice() {
-        read_submit(alloc, words)
-    } else if name == b"send".as_slice() {
-        read_send(words).ok_or(LineFault::Refused)
-    } else if name == b"frame".as_slice() {
-        read_frame(alloc, words)
-    } else if name == b"cancel".as_slice() {
-        read_cancel(words).ok_or(LineFault::Refused)
-    } else if name == b"collect".as_slice() {
-        read_collect(words).ok_or(LineFault::Refused)
-    } else {
-        Err(LineFault::Refused)
+    match name {
+        b"ask" => read_ask(words).ok_or(LineFault::Refused),
+        b"submit" => read_submit(alloc, words),
+        b"send" => read_send(words).ok_or(LineFault::Refused),
+        b"frame" => read_frame(alloc, words),
+        b"cancel" => read_cancel(words).ok_or(LineFault::Refused),
+        b"collect" => read_collect(words).ok_or(LineFault::Refused),
+        _ => Err(LineFault::Refused),
     }
 }
 
