@@ -10,7 +10,8 @@ use std::alloc::Global;
 
 /// A line is at most one command.
 pub fn one_command()
-    ensures { (n : ℕ) (line : List ℕ) (command other : Command) → IsLine n line command → IsLine n line other → command ≡ other }
+    ensures { (n : ℕ) (line : List ℕ) (command other : Command) → IsLine n line command → IsLine n line other
+        → command ≡ other }
 {}
 
 /// A line is a command at its number, or none is.

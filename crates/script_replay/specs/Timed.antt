@@ -5,12 +5,13 @@ use Rattle.script_lines.specs.declared.commands.Call.{Call}
 use Rattle.script_lines.specs.declared.commands.Call.TheVariants.{AskLease, Submit, TakeSend, Frame, Cancel, Collect}
 use Rattle.script_lines.specs.declared.commands.Command.{Command}
 use Rattle.script_lines.specs.declared.commands.Command.TheVariants.{Table, Calls}
+use Rattle.conn_core.specs.Journals.{timeout_limit}
 use Rattle.conn_core.specs.Tables.{IsSettings}
 
 -- the timeout of a request is from 1 ms to an hour
 abbrev pub HasTimeout : Call → Type 0
 HasTimeout (AskLease caller now) = Unit {0}
-HasTimeout (Submit caller lease now timeout payload) = (1 ≤ timeout) × (timeout ≤ 3600000)
+HasTimeout (Submit caller lease now timeout payload) = (1 ≤ timeout) × (timeout ≤ timeout_limit)
 HasTimeout TakeSend = Unit {0}
 HasTimeout (Frame bytes) = Unit {0}
 HasTimeout (Cancel caller id) = Unit {0}

@@ -1,6 +1,7 @@
 //! The calls of a script on its connection.
 
 ghost use Rattle.std.specs.Prelude.{◌≡◌, ◌≤◌, MatchResult};
+ghost use Rattle.conn_core.specs.Journals.{timeout_limit};
 ghost use Rattle.conn_core.specs.States.{state_after, table_in};
 ghost use Rattle.conn_core.specs.Steps.{answer_of, apply_frame, ask_lease, cancel, collect, take_send};
 ghost use Rattle.conn_core.specs.declared.entries.Event.TheVariants as events;
@@ -40,7 +41,7 @@ fn answer_submit(
     timeout_ms: u32,
     payload: ByteList,
 ) -> Result<Reply, AllocError>
-    requires { (1 ≤ timeout_ms) × (timeout_ms ≤ 3600000) }
+    requires { (1 ≤ timeout_ms) × (timeout_ms ≤ timeout_limit) }
     ensures { MatchResult result
         (λ reply. (spelled reply ≡ submit_text conn.old caller lease now timeout_ms payload)
         × (conn.new ≡ after_call conn.old (calls.Submit caller lease now timeout_ms payload)))
