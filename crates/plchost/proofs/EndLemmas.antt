@@ -1,6 +1,6 @@
 -- What a run comes to once the rest of its text is out.
-use Rattle.std.proofs.Common.{◌≡◌, ◌≢◌, ℕ, ◌⊎◌, List, [], ◌++◌, codes, Result, Ok, Err, refl, inl, inr, sym, ◌∙◌, subst, arith}
-use Rattle.std.specs.Result.{IfOk}
+use Rattle.std.proofs.Common.{◌≡◌, ◌≢◌, ℕ, ◌⊎◌, List, [], ◌++◌, codes, Result, Ok, Err, refl, inl, inr, sym, ap, ◌∙◌, subst, arith}
+use Rattle.std.specs.Result.{IfErr, IfOk}
 use Rattle.std.proofs.lemmas.Bool.{cases_eq}
 use Rattle.std.proofs.lemmas.List.{append-nil}
 use Rattle.link_io.specs.Counts.{Rose}
@@ -77,12 +77,18 @@ early_of (Err NoMemory) status P done early then =
 early_of (Err WriteFault) status P done early then =
     let known = early_status status early in absurd (known.0 (done known.0))
 
--- so did a run whose file there isn't
-lacking_at : (ran : Result ℕ Cut) (status : ℕ) → status ≡ (last_of ran).status → IfOk ran (λ n. n ≡ 3) → (status ≡ 3) ⊎ ((status ≡ 5) ⊎ (status ≡ 8))
-lacking_at (Ok n) status done three = inl (done ∙ three)
-lacking_at (Err NoMemory) status done three = inr (inr done)
-lacking_at (Err WriteFault) status done three = inr (inl done)
+-- what comes of a run whose file failed
+abbrev pub IsFileFault : Result ℕ Cut → Type 0
+IsFileFault ran = (ran ≡ Ok 3) ⊎ (ran ≡ Err NoMemory)
 
-pub lacking_of : (ran : Result ℕ Cut) (status : ℕ) → (status ≢ 5 → status ≡ (last_of ran).status) → IfOk ran (λ n. n ≡ 3) → (status ≡ 3) ⊎ ((status ≡ 5) ⊎ (status ≡ 8))
-lacking_of ran status done three =
-    elim (cases_eq status 5) [ inl five ↦ inr (inl five) | inr well ↦ lacking_at ran status (done well) three ]
+pub three_or_none : (ran : Result ℕ Cut) → IfOk ran (λ status. status ≡ 3) → IfErr ran (λ cut. cut ≡ NoMemory) → IsFileFault ran
+three_or_none (Ok status) three none = inl (ap (λ (n : ℕ). Ok n) three)
+three_or_none (Err cut) three none = inr (ap (λ (c : Cut). Err c) none)
+
+lacking_at : (ran : Result ℕ Cut) (status : ℕ) → status ≡ (last_of ran).status → IsFileFault ran → (status ≡ 3) ⊎ ((status ≡ 5) ⊎ (status ≡ 8))
+lacking_at ran status done (inl three) = inl (done ∙ ap (λ (r : Result ℕ Cut). (last_of r).status) three)
+lacking_at ran status done (inr none) = inr (inr (done ∙ ap (λ (r : Result ℕ Cut). (last_of r).status) none))
+
+pub lacking_of : (ran : Result ℕ Cut) (status : ℕ) → (status ≢ 5 → status ≡ (last_of ran).status) → IsFileFault ran → (status ≡ 3) ⊎ ((status ≡ 5) ⊎ (status ≡ 8))
+lacking_of ran status done failed =
+    elim (cases_eq status 5) [ inl five ↦ inr (inl five) | inr well ↦ lacking_at ran status (done well) failed ]

@@ -30,11 +30,14 @@ LeftSo None before after taken =
     (after.ends ≡ before.ends) × (after.faults ≡ before.faults) × (length taken ≤ input_limit)
 
 -- What was taken of the file of this name: nothing, and its count rose, or its bytes as the shelf tells them, and no count
--- changed. A run that ran out of memory may not have asked for them.
+-- changed. Where the shelf tells that there is no such file it is nothing. A run that ran out of memory may not have read all of
+-- these bytes.
 abbrev pub FileSeen : (name : List ℕ) → (before after : ShelfSeen) → Option (List ℕ) → Type 0
 FileSeen name before after None = Rose (before.faults name) (after.faults name)
 FileSeen name before after (Some text) =
-    ((other : List ℕ) → after.faults other ≡ before.faults other) × IfSome (before.file name) (λ bytes. text ≡ bytes)
+    ((other : List ℕ) → after.faults other ≡ before.faults other)
+    × IfSome (before.file name) (λ bytes. text ≡ bytes)
+    × (IsTrue (before.lacks name) → ⊥)
 
 -- These bytes were added to what goes out: some have gone, and the rest is gathered behind them.
 abbrev pub Adds : (held held' : Option (List ℕ)) → (gathered gathered' added : List ℕ) → Type 0

@@ -1,4 +1,4 @@
-ghost use Rattle.std.specs.Prelude.{◌≡◌, ◌⊎◌, ℕ, IfOk};
+ghost use Rattle.std.specs.Prelude.{◌≡◌, ◌⊎◌, ℕ, Ok, Err, IfOk};
 ghost use Rattle.mspec_tree.specs.declared.defs.Description.{Description};
 ghost use Rattle.plchost.specs.Tool.{AreReplay};
 ghost use Rattle.plchost.specs.Runs.{IsReady, LacksFile, RunsTo, StopsEarly, shown};
@@ -25,7 +25,8 @@ pub fn decode<F: Shelf, S: Source, K: Sink>(
     ensures run { RunsTo words.now F.counts_with
         (shown (F.seen files.old) (S.seen input.old) (K.seen out.old))
         (shown (F.seen files.new) (S.seen input.new) (K.seen out.new)) gathered.old.items gathered.new.items result }
-    ensures lacking { LacksFile words.now (F.seen files.old) → IfOk result (λ status. status ≡ 3) }
+    ensures lacking { LacksFile words.now (F.seen files.old)
+        → (input.new ≡ input.old) × ((result ≡ Ok 3) ⊎ (result ≡ Err Cut.NoMemory)) }
     ensures touched { (input.new ≡ input.old) ⊎ ((d : Description) × (def : ℕ)
         × IsReady words.now F.counts_with (F.seen files.old) (F.seen files.new) d def) }
     ensures untouched { IfOk result (λ status. StopsEarly status → input.new ≡ input.old) }

@@ -62,7 +62,7 @@ pub fn prepare<F: Shelf>(
     ensures ready { IfOk result (λ ready.
         IsReady words.now F.counts_with (F.seen files.old) (F.seen files.new) ready.description ready.def) }
     ensures files { LeavesFiles (F.seen files.old) (F.seen files.new) }
-    ensures lacking { LacksFile words.now (F.seen files.old) → (result ≡ Err Refusal.FileFault) ⊎ (result ≡ Err Refusal.NoMemory) }
+    ensures lacking { LacksFile words.now (F.seen files.old) → result ≡ Err Refusal.FileFault }
     ensures refused { IfErr result (λ refusal. (file : Option (List ℕ))
         × FileTaken words.now F.counts_with (F.seen files.old) (F.seen files.new) file
         × ComesToRefusal words.now file refusal) }

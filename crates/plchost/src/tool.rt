@@ -48,7 +48,8 @@ fn run<F: Shelf, S: Source, K: Sink>(
     ensures run { RunsTo words.now F.counts_with
         (shown (F.seen files.old) (S.seen input.old) (K.seen out.old))
         (shown (F.seen files.new) (S.seen input.new) (K.seen out.new)) gathered.old.items gathered.new.items result }
-    ensures lacking { LacksFile words.now (F.seen files.old) → IfOk result (λ status. status ≡ 3) }
+    ensures lacking { LacksFile words.now (F.seen files.old)
+        → (input.new ≡ input.old) × ((result ≡ Ok 3) ⊎ (result ≡ Err Cut.NoMemory)) }
     ensures touched { (input.new ≡ input.old) ⊎ ((d : Description) × (def : ℕ)
         × IsReady words.now F.counts_with (F.seen files.old) (F.seen files.new) d def) ⊎ AreReplay words.now }
     ensures untouched { IfOk result (λ status. StopsEarly status → input.new ≡ input.old) }
@@ -136,14 +137,16 @@ pub fn tool_main<F: Shelf, S: Source, K: Sink>(
     ensures type_refused { result ≡ 12 → (name kind text : List ℕ) × (d : Description) × AreDecode words.now name kind
         × FileSeen name (F.seen files.old) (F.seen files.new) (Some text)
         × FirstForm text d × ((def : ℕ) → Names d def kind → ⊥) }
-    // The file failed only where its count rose. It fails where its count rose or the shelf tells that there is none. No count
-    // changes but those of names that the shelf counts together with it, and with `replay` none at all.
+    // The file failed only where its count rose. It fails where its count rose or the shelf tells that there is none, and then
+    // the input is left alone. No count changes but those of names that the shelf counts together with it, and with all other
+    // words none at all.
     ensures file_fault { result ≡ 3 → (name kind : List ℕ) × AreDecode words.now name kind
         × Rose ((F.seen files.old).faults name) ((F.seen files.new).faults name) }
     ensures file_failed { (name kind : List ℕ) → AreDecode words.now name kind
         → (F.seen files.old).faults name < (F.seen files.new).faults name
         → (result ≡ 3) ⊎ ((result ≡ 5) ⊎ (result ≡ 8)) }
-    ensures no_such_file { LacksFile words.now (F.seen files.old) → (result ≡ 3) ⊎ ((result ≡ 5) ⊎ (result ≡ 8)) }
+    ensures no_such_file { LacksFile words.now (F.seen files.old)
+        → (input.new ≡ input.old) × ((result ≡ 3) ⊎ ((result ≡ 5) ⊎ (result ≡ 8))) }
     ensures other_files { (other : List ℕ) → (IsCountedWithFile F.counts_with words.now other → ⊥)
         → (F.seen files.new).faults other ≡ (F.seen files.old).faults other }
     // A read fault comes only where the input's count rose, and the input ended where all is well or truncated.

@@ -27,7 +27,9 @@ returns-clause-untouched g c =
 
 pub returns-clause-no_such_file : goal.returns-clause-no_such_file
 returns-clause-no_such_file g c =
-    λ (lacks : _). lacking_of c.run-ran.result c.conclude.result (λ well. (c.conclude.ensures.done well).0) (c.run-ran.ensures.lacking lacks)
+    λ (lacks : _).
+    let failed = c.run-ran.ensures.lacking lacks in
+    (failed.0, lacking_of c.run-ran.result c.conclude.result (λ well. (c.conclude.ensures.done well).0) failed.1)
 
 pub returns-clause-words_refused : goal.returns-clause-words_refused
 returns-clause-words_refused g c =
