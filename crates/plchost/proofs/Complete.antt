@@ -4,7 +4,6 @@ use Rattle.std.specs.Option.{IfSome}
 use Rattle.std.specs.Prelude.{if◌then◌else◌, nat_le}
 use Rattle.std.proofs.lemmas.Bool.Decides.{nat_tests}
 use Rattle.std.proofs.lemmas.List.{length-take, take_all}
-use Rattle.node_tree.specs.Bits.{bits_of}
 use Rattle.mspec_meaning.specs.Stream.{Stream, End, TooFew, Refused}
 use Rattle.std.proofs.lemmas.Bool.{cases_eq}
 use Rattle.link_io.specs.Counts.{Rose}
@@ -73,7 +72,7 @@ without_input words file bytes u TypeRefused same comes decided =
 without_input words file bytes u (Values d def readings End) same comes decided = absurd decided
 without_input words file bytes u (Values d def readings (TooFew left)) same comes decided = absurd decided
 without_input words file bytes u (Values d def readings (Refused bit why)) same comes decided =
-    absurd (no_refusal comes.2 d def comes.1 0 (bits_of (take input_limit bytes)) readings bit why comes.5 comes.6 comes.7)
+    absurd (no_refusal comes.2 d def (take input_limit bytes) readings bit why comes.5 comes.7)
 without_input words file bytes u (Answers text end) same comes decided = absurd decided
 
 left_alone : (words : List (List ℕ)) (t u : Taken) (outcome : Said) → ((name kind : List ℕ) → AreDecode words name kind → u.file ≡ t.file) → t.how ≡ None → Tool words t outcome → Tool words u outcome

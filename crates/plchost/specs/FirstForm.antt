@@ -1,4 +1,4 @@
--- The first form of a description: one type, whose fields are unsigned numbers of whole bytes.
+-- The first form of a description: one type, whose fields are unsigned numbers of 8, 16, 32 or 64 bits.
 use Rattle.std.specs.Prelude.{◌≡◌, ◌≢◌, ◌≤◌, ◌==◌, ◌||◌, ℕ, Bool, false, List, [], ◌∷◌, ◌++◌, length, map, codes, None, IsTrue}
 use Rattle.std.specs.Char.{is_ascii_digit, is_ascii_alphabetic}
 use Rattle.std.specs.List.{AllByRecursion, Contains, flat_map}

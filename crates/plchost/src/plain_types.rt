@@ -1,4 +1,4 @@
-//! Reads a description in the first form: one type, whose fields are unsigned numbers of whole bytes.
+//! Reads a description in the first form: one type, whose fields are unsigned numbers of 8, 16, 32 or 64 bits.
 
 ghost use Rattle.std.specs.Prelude.{◌≡◌, List, ℕ, map, IfOk};
 ghost use Rattle.std.specs.List.{list_any};

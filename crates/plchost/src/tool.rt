@@ -1,8 +1,9 @@
-ghost use Rattle.std.specs.Prelude.{◌≡◌, ◌≢◌, ◌+◌, ◌<◌, ◌⊎◌, ℕ, List, ◌++◌, take, None, Some, Ok, Err, IfOk, OnOk, OnErr};
+ghost use Rattle.std.specs.Prelude.{◌≡◌, ◌≢◌, ◌+◌, ◌<◌, ◌⊎◌, ℕ, List, [], ◌++◌, take, None, Some, Ok, Err, IfOk, OnOk, OnErr};
 ghost use Rattle.link_io.specs.Counts.{Rose};
 ghost use Rattle.link_io.specs.Streams.{after_taking};
 ghost use Rattle.mspec_tree.specs.declared.defs.Description.{Description};
-ghost use Rattle.mspec_meaning.specs.Stream.{End, TooFew};
+ghost use Rattle.node_tree.specs.declared.readings.Reading.{Reading};
+ghost use Rattle.mspec_meaning.specs.Stream.{End, Refused, Stream, TooFew, Why};
 ghost use Rattle.script_replay.specs.Replays.{Script};
 ghost use Rattle.script_replay.specs.declared.replays.ScriptEnd.{ScriptEnd};
 ghost use Rattle.plchost.specs.FirstForm.{FirstForm};
@@ -34,6 +35,12 @@ pub fn some_said()
         → ((name kind text : List ℕ) (d : Description) (def : ℕ)
         → AreDecode words name kind → t.file ≡ Some text → FirstForm text d → Names d def kind → ⊥)
         → (outcome : Said) × Tool words t outcome }
+{}
+
+/// A description in the first form refuses no value.
+pub fn no_form_refuses()
+    ensures { (text : List ℕ) (d : Description) (def : ℕ) (bytes : List ℕ) (readings : List Reading) (bit : ℕ) (why : Why)
+        → FirstForm text d → Stream d def [] bytes readings (Refused bit why) → ⊥ }
 {}
 
 /// Adds what the run says to what is gathered, of which some may go out on the way, and answers the status.
@@ -149,7 +156,8 @@ pub fn tool_main<F: Shelf, S: Source, K: Sink>(
         → (input.new ≡ input.old) × ((result ≡ 3) ⊎ ((result ≡ 5) ⊎ (result ≡ 8))) }
     ensures other_files { (other : List ℕ) → (IsCountedWithFile F.counts_with words.now other → ⊥)
         → (F.seen files.new).faults other ≡ (F.seen files.old).faults other }
-    // A read fault comes only where the input's count rose, and the input ended where all is well or truncated.
+    // A read fault comes only where the input's count rose. The input is too long only where one byte more than the limit was
+    // taken of it. It ended where all is well or truncated.
     ensures read_fault { result ≡ 4 → Rose (S.seen input.old).faults (S.seen input.new).faults }
     ensures too_long { result ≡ 13 → (taken : List ℕ)
         × InputTaken (S.seen input.old) (S.seen input.new) taken (Some How.Over) }
@@ -183,7 +191,7 @@ pub fn tool_main<F: Shelf, S: Source, K: Sink>(
         (shown (F.seen files.old) (S.seen input.old) (K.seen out.old))
         (shown (F.seen files.new) (S.seen input.new) (K.seen out.new))
         → (result ≡ 0) ⊎ (result ≡ 8) }
-    // No value by a description in the first form is refused.
+    // Status 6 doesn't come, since a description in the first form refuses no value.
     ensures no_value_refused { result ≢ 6 }
     // A line is refused only where it is the first that leaves the first form, or must stand and is missing.
     ensures line_refused { result ≡ 10 → AreReplay words.now
