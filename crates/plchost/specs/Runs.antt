@@ -7,6 +7,7 @@ use Rattle.plchost.specs.declared.faults.Cut.{Cut}
 use Rattle.plchost.specs.declared.faults.Cut.TheVariants.{NoMemory, WriteFault}
 use Rattle.plchost.specs.declared.inputs.How.{How}
 use Rattle.plchost.specs.declared.inputs.How.TheVariants.{Ended, Failed, Over}
+use Rattle.plchost.specs.declared.statuses.Status.{Status}
 use Rattle.mspec_tree.specs.declared.defs.Description.{Description}
 use Rattle.mspec_meaning.specs.Stream.{Ending, Stream}
 use Rattle.wire_frames.specs.declared.raw.RawWire.{RawWire}
@@ -16,6 +17,7 @@ use Rattle.script_replay.specs.declared.replays.ScriptEnd.{ScriptEnd}
 use Rattle.script_replay.specs.declared.replays.ScriptEnd.TheVariants.{Answered}
 use Rattle.plchost.specs.FirstForm.{FirstForm}
 use Rattle.plchost.specs.Lines.{AreWholeLines, lines_of}
+use Rattle.plchost.specs.Statuses.{number_of}
 use Rattle.plchost.specs.Tool.{AreDecode, AreReplay, IsFront, Names, Said, Taken, Tool, entries_said, input_limit, last_said, listings}
 
 -- How the input was left, by its two counts and the bytes that were taken.
@@ -86,13 +88,13 @@ shown files input out = record { files = files; input = input; out = out }
 
 -- A run by these words, with this shown before it and after it, came to this status or was cut off, with this gathered before it
 -- and after it.
-pub record RunsTo (words : List (List ℕ)) (counts_with : List ℕ → List ℕ → Type 0) (before after : Shown) (gathered gathered' : List ℕ) (ran : Result ℕ Cut) : Type 0 where
+pub record RunsTo (words : List (List ℕ)) (counts_with : List ℕ → List ℕ → Type 0) (before after : Shown) (gathered gathered' : List ℕ) (ran : Result Status Cut) : Type 0 where
   -- The tool's text was added, and the status is the tool's.
   pub said : IfOk ran (λ status. (t : Taken) × (outcome : Said)
       × Took words counts_with before.files after.files before.input after.input t
       × Tool words t outcome
       × Adds before.out.held after.out.held gathered gathered' outcome.text
-      × (status ≡ outcome.status))
+      × (number_of status ≡ outcome.status))
   -- Where memory ran out a front of it was added, of whole lines.
   pub no_memory : ran ≡ Err NoMemory → (t : Taken) × (front : List ℕ)
       × Took words counts_with before.files after.files before.input after.input t
@@ -111,8 +113,8 @@ pub record RunsTo (words : List (List ℕ)) (counts_with : List ℕ → List ℕ
   pub files : LeavesFiles before.files after.files
 
 -- the last line and the status of a run that came to this
-abbrev pub last_of : Result ℕ Cut → Said
-last_of (Ok status) = record { text = []; status = status }
+abbrev pub last_of : Result Status Cut → Said
+last_of (Ok status) = record { text = []; status = number_of status }
 last_of (Err NoMemory) = record { text = codes "no memory\n"; status = 8 }
 last_of (Err WriteFault) = record { text = []; status = 5 }
 

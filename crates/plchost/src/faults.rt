@@ -11,6 +11,19 @@ pub enum Cut {
     NoMemory,
 }
 
+impl From<Cut> for u8 {
+    ghost use Rattle.plchost.specs.Statuses.{cut_number};
+
+    ghost from_gives = { λ cut number. number ≡ cut_number cut };
+
+    fn from(cut: Cut) -> u8 {
+        match cut {
+            Cut::WriteFault => 5,
+            Cut::NoMemory => 8,
+        }
+    }
+}
+
 impl From<AllocError> for Cut {
     ghost from_gives = { λ _ e. e ≡ NoMemory };
 

@@ -9,6 +9,7 @@ ghost use Rattle.script_replay.specs.declared.replays.ScriptEnd.{ScriptEnd};
 ghost use Rattle.plchost.specs.FirstForm.{FirstForm};
 ghost use Rattle.plchost.specs.Lines.{lines_of};
 ghost use Rattle.plchost.specs.Runs.{FileSeen, InputTaken, IsCountedWithFile, IsReady, IsRun, LacksFile, PutsFront, RunsTo, StopsEarly, WasDecoded, WasReplayed, last_of, shown};
+ghost use Rattle.plchost.specs.Statuses.{number_of};
 ghost use Rattle.plchost.specs.Told.{IsTold, NoneFailed, TellsScript, TellsValues};
 ghost use Rattle.plchost.specs.Tool.{AreDecode, AreRefused, AreReplay, Names, Said, Taken, Tool, input_limit, line_refused, refused_line};
 ghost use Rattle.plchost.specs.declared.inputs.How.{How};
@@ -17,7 +18,7 @@ use crate::decoding::decode;
 use crate::faults::Cut;
 use crate::printing::put_all;
 use crate::replaying::replay;
-use crate::statuses::{NO_MEMORY, WRITE_FAULT};
+use crate::statuses::Status;
 use crate::words::is_replay;
 use link_io::{Failed, Shelf, Sink, Source, StringList};
 use std::alloc::Global;
@@ -51,15 +52,15 @@ fn run<F: Shelf, S: Source, K: Sink>(
     input: &mut S,
     out: &mut K,
     gathered: &mut Vec<u8>,
-) -> Result<u8, Cut>
+) -> Result<Status, Cut>
     ensures run { RunsTo words.now F.counts_with
         (shown (F.seen files.old) (S.seen input.old) (K.seen out.old))
         (shown (F.seen files.new) (S.seen input.new) (K.seen out.new)) gathered.old.items gathered.new.items result }
     ensures lacking { LacksFile words.now (F.seen files.old)
-        → (input.new ≡ input.old) × ((result ≡ Ok 3) ⊎ (result ≡ Err Cut.NoMemory)) }
+        → (input.new ≡ input.old) × ((result ≡ Ok Status.FileFault) ⊎ (result ≡ Err Cut.NoMemory)) }
     ensures touched { (input.new ≡ input.old) ⊎ ((d : Description) × (def : ℕ)
         × IsReady words.now F.counts_with (F.seen files.old) (F.seen files.new) d def) ⊎ AreReplay words.now }
-    ensures untouched { IfOk result (λ status. StopsEarly status → input.new ≡ input.old) }
+    ensures untouched { IfOk result (λ status. StopsEarly (number_of status) → input.new ≡ input.old) }
 {
     if is_replay(words) {
         replay(alloc, input, out, gathered)
@@ -79,24 +80,35 @@ fn put_and_flush<K: Sink>(out: &mut K, gathered: &[u8], last: &[u8]) -> Result<(
     out.flush()
 }
 
-/// Puts the rest of a run's text out, and its last line, and answers its status, or that of a write fault.
-fn put_last<K: Sink>(out: &mut K, gathered: &[u8], last: &[u8], status: u8) -> u8
-    requires { status ≢ 5 }
-    ensures done { result ≢ 5 → (result ≡ status)
-        × ((K.seen out.new).held ≡ after_taking (gathered.now ++ last.now) (K.seen out.old).held)
-        × ((K.seen out.new).faults ≡ (K.seen out.old).faults) }
-    ensures cut { result ≡ 5 → PutsFront (K.seen out.old).held (K.seen out.new).held (gathered.now ++ last.now)
-        × Rose (K.seen out.old).faults (K.seen out.new).faults }
+/// The line that stands behind what a run has said.
+fn last_line(ran: Result<Status, Cut>) -> &'static [u8]
+    ensures { result.now ≡ (last_of ran).text }
 {
-    match put_and_flush(out, gathered, last) {
-        Ok(()) => status,
-        Err(Failed) => WRITE_FAULT,
+    match ran {
+        Err(Cut::NoMemory) => b"no memory\n",
+        _ => b"",
     }
 }
 
+/// Puts the rest of a run's text out, and its last line. Where the output fails the run is cut off.
+fn put_last<K: Sink>(out: &mut K, gathered: &[u8], ran: Result<Status, Cut>) -> Result<Status, Cut>
+    ensures done { result ≢ Err Cut.WriteFault → (result ≡ ran)
+        × ((K.seen out.new).held ≡ after_taking (gathered.now ++ (last_of ran).text) (K.seen out.old).held)
+        × ((K.seen out.new).faults ≡ (K.seen out.old).faults) }
+    ensures cut { result ≡ Err Cut.WriteFault → ran ≢ Err Cut.WriteFault
+        → PutsFront (K.seen out.old).held (K.seen out.new).held (gathered.now ++ (last_of ran).text)
+        × Rose (K.seen out.old).faults (K.seen out.new).faults }
+    ensures failed { ran ≡ Err Cut.WriteFault → (result ≡ ran) × (out.new ≡ out.old) }
+{
+    if let Err(Cut::WriteFault) = ran {
+        return ran;
+    }
+    put_and_flush(out, gathered, last_line(ran))?;
+    ran
+}
+
 /// Puts the rest of a run's text out, behind it a line where memory ran out, and answers the status.
-pub fn conclude<K: Sink>(out: &mut K, gathered: &[u8], ran: Result<u8, Cut>) -> u8
-    requires { ran ≢ Ok 5 }
+pub fn conclude<K: Sink>(out: &mut K, gathered: &[u8], ran: Result<Status, Cut>) -> u8
     ensures done { result ≢ 5 → (result ≡ (last_of ran).status)
         × ((K.seen out.new).held ≡ after_taking (gathered.now ++ (last_of ran).text) (K.seen out.old).held)
         × ((K.seen out.new).faults ≡ (K.seen out.old).faults) }
@@ -105,10 +117,9 @@ pub fn conclude<K: Sink>(out: &mut K, gathered: &[u8], ran: Result<u8, Cut>) -> 
         × Rose (K.seen out.old).faults (K.seen out.new).faults }
     ensures failed { ran ≡ Err Cut.WriteFault → (result ≡ 5) × (out.new ≡ out.old) }
 {
-    match ran {
-        Ok(status) => put_last(out, gathered, b"", status),
-        Err(Cut::NoMemory) => put_last(out, gathered, b"no memory\n", NO_MEMORY),
-        Err(Cut::WriteFault) => WRITE_FAULT,
+    match put_last(out, gathered, ran) {
+        Ok(status) => status.into(),
+        Err(cut) => cut.into(),
     }
 }
 

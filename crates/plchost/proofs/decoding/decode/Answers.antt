@@ -5,6 +5,7 @@ use Rattle.plchost.specs.declared.preparing.Refusal.{Refusal}
 use Rattle.plchost.specs.declared.preparing.Refusal.TheVariants.{FileFault}
 use Rattle.plchost.specs.Endings.{ending_of}
 use Rattle.plchost.specs.Preparing.{refusal_said, untaken}
+use Rattle.plchost.specs.Statuses.{number_of}
 use Rattle.plchost.specs.Tool.{listings, last_said, said, Values}
 use Rattle.plchost.proofs.FormReads.{form_reads}
 use Rattle.plchost.proofs.RunLemmas.{Adds-more, Adds-same, Adds-nothing, Adds-gathered}
@@ -138,7 +139,7 @@ returns-clause-run g c =
 
 pub returns-clause-untouched : goal.returns-clause-untouched
 returns-clause-untouched g c =
-    λ (early : _). absurd (not_early (Some c.in_ok-capture.capture.how) (ending_of c.in_ok-rest.rest) c.in_ok-status.status early c.in_ok-status.ensures.closed.1)
+    λ (early : _). absurd (not_early (Some c.in_ok-capture.capture.how) (ending_of c.in_ok-rest.rest) (number_of c.in_ok-status.status) early c.in_ok-status.ensures.closed.1)
 
 pub returns-in-Err-clause-lacking : goal.returns-in-Err-clause-lacking
 returns-in-Err-clause-lacking g c =

@@ -1,20 +1,13 @@
 use Rattle.std.proofs.Common.{◌≡◌, ◌≢◌, ℕ, ◌⊎◌, true, inl, inr, ap, sym, ◌∙◌, arith}
 use Rattle.std.proofs.lemmas.Bool.{cases_eq}
-use Rattle.std.proofs.lemmas.Result.{IfOk-at_ok}
 use Rattle.plchost.specs.Tool.{Said}
-use Rattle.plchost.proofs.StatusLemmas.{words_at_2, only_words, fault_at_3, rose_at_none, none_at_rise, only_fault, rose_at_4, ended_at, is_end, over_at_13, refused_at_12, seen_of, unformed_at_1, cut_status}
+use Rattle.plchost.proofs.StatusLemmas.{words_at_2, only_words, fault_at_3, rose_at_none, none_at_rise, only_fault, rose_at_4, ended_at, is_end, over_at_13, refused_at_12, seen_of, unformed_at_1}
 use Rattle.plchost.proofs.NoRefusal.{no_status_6}
 use Rattle.plchost.proofs.Complete.{complete, script_well, values_well}
 use Rattle.plchost.proofs.EndLemmas.{concluded, early_of, lacking_of}
 use Rattle.plchost.proofs.EndStatus.{cut_at_7, well_at_0}
 use Rattle.plchost.proofs.ScriptStatus.{line_at_10}
 use Rattle.plchost.proofs.tool.tool_main.Goals as goal
-
-pub conclude-requires : goal.conclude-requires
-conclude-requires g c =
-    λ (e : _).
-    let s = IfOk-at_ok _ e c.run-ran.ensures.run.said in
-    (cut_status c.args.words.now s.0 s.1 s.3).0 (sym s.5)
 
 pub returns-clause-run : goal.returns-clause-run
 returns-clause-run g c =
