@@ -16,7 +16,7 @@ use Rattle.plchost.specs.declared.inputs.How.TheVariants.{Ended, Failed, Over}
 use Rattle.plchost.specs.Lines.{lines_of}
 use Rattle.plchost.specs.Runs.{FileSeen, InputTaken, IsRun, Shown}
 use Rattle.plchost.specs.Told.{GivesSo, InputTold, IsTold, NoneFailed, TellsScript, TellsValues}
-use Rattle.plchost.specs.Tool.{AreDecode, ComesTo, Course, IsDecided, Said, Taken, Tool, WordsRefused, FileFault, NotBuilt, TypeRefused, Values, Answers, entries_said, input_limit, line_refused, said, script_said}
+use Rattle.plchost.specs.Tool.{AreDecode, ComesTo, Course, IsDecided, Said, Taken, Tool, WordsRefused, FileFault, NotBuilt, TypeRefused, Values, Answers, entries_said, input_limit, refusal_of_line, said, script_said}
 use Rattle.plchost.proofs.NoRefusal.{no_refusal}
 use Rattle.plchost.proofs.OneSaid.{one_said}
 use Rattle.plchost.proofs.StatusLemmas.{not_both}
@@ -140,7 +140,7 @@ all_count bytes short = take_all input_limit bytes short
 pub values_well : (words : List (List ℕ)) (counts_with : List ℕ → List ℕ → Type 0) (before after : Shown) (status : ℕ) → IsRun words counts_with before after status → TellsValues words before.files before.input → NoneFailed words before after → (status ≡ 0) ⊎ (status ≡ 8)
 values_well words counts_with before after status run v well =
     let t : Taken = record { file = Some v.text; bytes = v.tape.left; how = Some Ended } in
-    let named : (name kind : List ℕ) → AreDecode words name kind → v.name ≡ name = λ name kind decode. (one_decode words v.name v.kind name kind v.are_decode decode).0 in
+    let named : (name kind : List ℕ) → AreDecode words name kind → v.file_name ≡ name = λ name kind decode. (one_decode words v.file_name v.type_name name kind v.are_decode decode).0 in
     let told : IsTold words before.files before.input t =
     record {
       from_file = λ name kind decode. (v.text, ap before.files.file (sym (named name kind decode)) ∙ v.file, refl);
@@ -148,7 +148,7 @@ values_well words counts_with before after status run v well =
     } in
     let stream = subst (λ (bytes : List ℕ). Stream v.d v.def [] bytes v.readings End) (sym (all_count v.tape.left v.within)) v.values in
     let tool : Tool words t (said (Some Ended) (Values v.d v.def v.readings End)) =
-    (Values v.d v.def v.readings End, (v.name, v.kind, v.text, v.are_decode, refl, v.form, v.names, stream), tt, refl) in
+    (Values v.d v.def v.readings End, (v.file_name, v.type_name, v.text, v.are_decode, refl, v.form, v.names, stream), tt, refl) in
     elim (complete words counts_with before after status run t (said (Some Ended) (Values v.d v.def v.readings End)) told tool well)
     [ inl eight ↦ inr eight | inr done ↦ inl done.0 ]
 
@@ -159,7 +159,7 @@ behind next past = grind (arith, nat_tests)
 past_second : (next entries : ℕ) → 2 < next → (script_said next entries).status ≡ 0
 past_second next entries past =
     let free : must_stand next ≡ false = behind next past in
-    ap (λ v. (if v then line_refused next else entries_said entries).status) free
+    ap (λ v. (if v then refusal_of_line next else entries_said entries).status) free
 
 pub script_well : (words : List (List ℕ)) (counts_with : List ℕ → List ℕ → Type 0) (before after : Shown) (status : ℕ) → IsRun words counts_with before after status → TellsScript words before.input → NoneFailed words before after → (status ≡ 0) ⊎ (status ≡ 8)
 script_well words counts_with before after status run s well =

@@ -53,16 +53,16 @@ PutsFront held held' bytes = (front rest : List ℕ) × (front ++ rest ≡ bytes
 -- the shelf counts this name together with the file that the words name
 abbrev pub IsCountedWithFile : (counts_with : List ℕ → List ℕ → Type 0) → (words : List (List ℕ)) → (other : List ℕ) → Type 0
 IsCountedWithFile counts_with words other =
-    (name kind : List ℕ) × AreDecode words name kind × counts_with name other
+    (file_name type_name : List ℕ) × AreDecode words file_name type_name × counts_with file_name other
 
 -- the words are `decode` with a file that the shelf tells there isn't
 abbrev pub LacksFile : (words : List (List ℕ)) → ShelfSeen → Type 0
-LacksFile words files = (name kind : List ℕ) × AreDecode words name kind × IsTrue (files.lacks name)
+LacksFile words files = (file_name type_name : List ℕ) × AreDecode words file_name type_name × IsTrue (files.lacks file_name)
 
 -- What was taken of the shelf: the file that the words name, if they do. No count has changed but those of names that the shelf
 -- counts together with it.
 pub record FileTaken (words : List (List ℕ)) (counts_with : List ℕ → List ℕ → Type 0) (before after : ShelfSeen) (file : Option (List ℕ)) : Type 0 where
-  pub named : (name kind : List ℕ) → AreDecode words name kind → FileSeen name before after file
+  pub named : (file_name type_name : List ℕ) → AreDecode words file_name type_name → FileSeen file_name before after file
   pub others : (other : List ℕ) → (IsCountedWithFile counts_with words other → ⊥) → after.faults other ≡ before.faults other
 
 -- What was taken from the input, the next bytes that it had, and how it was left: at its end, if it ended.
@@ -146,11 +146,11 @@ pub record IsRun (words : List (List ℕ)) (counts_with : List ℕ → List ℕ 
 -- The words name a file that was read, a description in it, and a type of it, so that the input is to be read.
 abbrev pub IsReady : (words : List (List ℕ)) → (counts_with : List ℕ → List ℕ → Type 0) → (before after : ShelfSeen) → (d : Description) → (def : ℕ) → Type 0
 IsReady words counts_with before after d def =
-    (name kind text : List ℕ)
-    × AreDecode words name kind
+    (file_name type_name text : List ℕ)
+    × AreDecode words file_name type_name
     × FileTaken words counts_with before after (Some text)
     × FirstForm text d
-    × Names d def kind
+    × Names d def type_name
 
 -- The words lead to values, and the input ended. Its bytes are these values, up to this ending.
 pub record WasDecoded (words : List (List ℕ)) (counts_with : List ℕ → List ℕ → Type 0) (before after : Shown) (ending : Ending) : Type 0 where

@@ -3,7 +3,7 @@ ghost use Rattle.std.specs.Fmt.{decimal};
 ghost use Rattle.plchost.specs.Endings.{ending_of, why_of};
 ghost use Rattle.plchost.specs.Preparing.{refusal_said};
 ghost use Rattle.plchost.specs.Statuses.{number_of};
-ghost use Rattle.plchost.specs.Tool.{why_text, last_said, line_refused, script_last};
+ghost use Rattle.plchost.specs.Tool.{why_text, last_said, refusal_of_line, script_last};
 
 use crate::faults::Cut;
 use crate::inputs::How;
@@ -33,7 +33,7 @@ fn why_text(why: ValueWhy) -> &'static [u8]
     }
 }
 
-fn refused_line(alloc: Global, bit: u64, why: ValueWhy) -> Result<Vec<u8>, AllocError>
+fn refused_value_line(alloc: Global, bit: u64, why: ValueWhy) -> Result<Vec<u8>, AllocError>
     ensures { IfOk result (λ line. line.items ≡ codes "value refused " ++ decimal bit ++ codes " " ++ why_text (why_of why) ++ codes "\n") }
 {
     let mut buffer = Buffer::new();
@@ -79,7 +79,7 @@ pub fn close(
     match (rest, how) {
         (Rest::Bad { bit, why }, _) => add_last(
             gathered,
-            &refused_line(alloc, bit, why)?,
+            &refused_value_line(alloc, bit, why)?,
             Status::ValueRefused,
         ),
         (_, How::Failed) => add_last(gathered, READ_FAULT_LINE, Status::ReadFault),
@@ -96,7 +96,7 @@ pub fn close(
 }
 
 fn refuse_line(alloc: Global, gathered: &mut Vec<u8>, line: u64) -> Result<Status, AllocError>
-    ensures closed { IfOk result (λ status. (gathered.new.items ≡ gathered.old.items ++ (line_refused line).text) × (status ≡ Status.LineRefused)) }
+    ensures closed { IfOk result (λ status. (gathered.new.items ≡ gathered.old.items ++ (refusal_of_line line).text) × (status ≡ Status.LineRefused)) }
     ensures unchanged { IfErr result (λ _. gathered.new.items ≡ gathered.old.items) }
 {
     add_last(

@@ -3,12 +3,10 @@ ghost use Rattle.link_io.specs.Counts.{Rose};
 ghost use Rattle.link_io.specs.Streams.{LeavesFiles};
 ghost use Rattle.plchost.specs.declared.files.FileFault.TheVariants.{NoMemory};
 
+use crate::inputs::PIECE;
 use crate::plain_types::MAX_BYTES;
 use link_io::{Failed, Shelf};
 use std::alloc::{AllocError, Global};
-
-/// How many bytes are asked for at a time.
-const PIECE: usize = 65_536;
 
 /// Why a file wasn't read.
 #[derive(Clone, Copy, Debug, PartialEq, Eq)]

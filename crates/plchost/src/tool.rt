@@ -11,7 +11,7 @@ ghost use Rattle.plchost.specs.Lines.{lines_of};
 ghost use Rattle.plchost.specs.Runs.{FileSeen, InputTaken, IsCountedWithFile, IsReady, IsRun, LacksFile, PutsFront, RunsTo, StopsEarly, WasDecoded, WasReplayed, last_of, shown};
 ghost use Rattle.plchost.specs.Statuses.{number_of};
 ghost use Rattle.plchost.specs.Told.{IsTold, NoneFailed, TellsScript, TellsValues};
-ghost use Rattle.plchost.specs.Tool.{AreDecode, AreRefused, AreReplay, Names, Said, Taken, Tool, input_limit, line_refused, refused_line};
+ghost use Rattle.plchost.specs.Tool.{AreDecode, AreRefused, AreReplay, Names, Said, Taken, Tool, input_limit, refusal_of_line, refused_line};
 ghost use Rattle.plchost.specs.declared.inputs.How.{How};
 
 use crate::decoding::decode;
@@ -33,8 +33,8 @@ pub fn one_said()
 pub fn some_said()
     ensures left { (words : List (List ℕ)) (t : Taken) (left : How) → t.how ≡ Some left → (outcome : Said) × Tool words t outcome }
     ensures alone { (words : List (List ℕ)) (t : Taken) → t.how ≡ None → (AreReplay words → ⊥)
-        → ((name kind text : List ℕ) (d : Description) (def : ℕ)
-        → AreDecode words name kind → t.file ≡ Some text → FirstForm text d → Names d def kind → ⊥)
+        → ((file_name type_name text : List ℕ) (d : Description) (def : ℕ)
+        → AreDecode words file_name type_name → t.file ≡ Some text → FirstForm text d → Names d def type_name → ⊥)
         → (outcome : Said) × Tool words t outcome }
 {}
 
@@ -149,19 +149,19 @@ pub fn tool_main<F: Shelf, S: Source, K: Sink>(
     ensures words_refused { result ≡ 2 → AreRefused words.now }
     ensures only_commands { AreRefused words.now → (result ≡ 2) ⊎ ((result ≡ 5) ⊎ (result ≡ 8)) }
     // The text is outside the first form, or has no type of that name.
-    ensures not_built { result ≡ 1 → (name kind text : List ℕ) × AreDecode words.now name kind
-        × FileSeen name (F.seen files.old) (F.seen files.new) (Some text)
+    ensures not_built { result ≡ 1 → (file_name type_name text : List ℕ) × AreDecode words.now file_name type_name
+        × FileSeen file_name (F.seen files.old) (F.seen files.new) (Some text)
         × ((d : Description) → FirstForm text d → ⊥) }
-    ensures type_refused { result ≡ 12 → (name kind text : List ℕ) × (d : Description) × AreDecode words.now name kind
-        × FileSeen name (F.seen files.old) (F.seen files.new) (Some text)
-        × FirstForm text d × ((def : ℕ) → Names d def kind → ⊥) }
+    ensures type_refused { result ≡ 12 → (file_name type_name text : List ℕ) × (d : Description) × AreDecode words.now file_name type_name
+        × FileSeen file_name (F.seen files.old) (F.seen files.new) (Some text)
+        × FirstForm text d × ((def : ℕ) → Names d def type_name → ⊥) }
     // The file failed only where its count rose. It fails where its count rose or the shelf tells that there is none, and then
     // the input is left alone. No count changes but those of names that the shelf counts together with it, and with all other
     // words none at all.
-    ensures file_fault { result ≡ 3 → (name kind : List ℕ) × AreDecode words.now name kind
-        × Rose ((F.seen files.old).faults name) ((F.seen files.new).faults name) }
-    ensures file_failed { (name kind : List ℕ) → AreDecode words.now name kind
-        → (F.seen files.old).faults name < (F.seen files.new).faults name
+    ensures file_fault { result ≡ 3 → (file_name type_name : List ℕ) × AreDecode words.now file_name type_name
+        × Rose ((F.seen files.old).faults file_name) ((F.seen files.new).faults file_name) }
+    ensures file_failed { (file_name type_name : List ℕ) → AreDecode words.now file_name type_name
+        → (F.seen files.old).faults file_name < (F.seen files.new).faults file_name
         → (result ≡ 3) ⊎ ((result ≡ 5) ⊎ (result ≡ 8)) }
     ensures no_such_file { LacksFile words.now (F.seen files.old)
         → (input.new ≡ input.old) × ((result ≡ 3) ⊎ ((result ≡ 5) ⊎ (result ≡ 8))) }
@@ -210,7 +210,7 @@ pub fn tool_main<F: Shelf, S: Source, K: Sink>(
         × InputTaken (S.seen input.old) (S.seen input.new) taken (Some left)
         × Script (lines_of (Some left) (take input_limit taken)) text end
         × (refused_line left end ≡ Some line)
-        × ((K.seen out.new).held ≡ after_taking (text ++ (line_refused line).text) (K.seen out.old).held)) }
+        × ((K.seen out.new).held ≡ after_taking (text ++ (refusal_of_line line).text) (K.seen out.old).held)) }
 {
     let mut gathered = Vec::new(alloc);
     let ran = run(alloc, words, files, input, out, &mut gathered);

@@ -13,7 +13,7 @@ returns-in_err-text-clause-refused g c =
     let p = err_from_is_err_and c.from_residual.result c.from_residual.ensures.1 in
     let kept = c.in_err-text.ensures.no_fault in
     rw (p.1, p.2)
-    (failed_seen c.args.words.now c.in-Some.found.file.now c.in-Some.found.kind.now g.F.Shelf.counts_with (g.F.Shelf.seen c.args.files.now) (g.F.Shelf.seen c.read_file.new.files) c.in_err-text.field-0.0 c.in-Some.ensures
+    (failed_seen c.args.words.now c.in-Some.found.file_name.now c.in-Some.found.type_name.now g.F.Shelf.counts_with (g.F.Shelf.seen c.args.files.now) (g.F.Shelf.seen c.read_file.new.files) c.in_err-text.field-0.0 c.in-Some.ensures
     (λ e. c.in_err-text.ensures.fault (ap (λ x. Err x) e))
     (elim kept [ inl failed ↦ inl (cc) | inr same ↦ inr same ])
     (λ lacks. let h = c.in_err-text.ensures.lacking lacks in cc)
@@ -25,16 +25,16 @@ returns-in_err-description-clause-refused g c =
     let before = g.F.Shelf.seen c.args.files.now in
     let after = g.F.Shelf.seen c.read_file.new.files in
     let same : (other : List ℕ) → after.faults other ≡ before.faults other = elim c.in_ok-text.ensures.no_fault [ inl failed ↦ absurd cc | inr same ↦ same ] in
-    let front = subst (λ (text : List ℕ). IfSome (before.file c.in-Some.found.file.now) (λ bytes. text ≡ take 1048577 bytes)) (sym c.deref.ensures.value) c.in_ok-text.ensures.text in
+    let front = subst (λ (text : List ℕ). IfSome (before.file c.in-Some.found.file_name.now) (λ bytes. text ≡ take 1048577 bytes)) (sym c.deref.ensures.value) c.in_ok-text.ensures.text in
     rw (p.1, p.2)
-    (unformed_seen c.args.words.now c.in-Some.found.file.now c.in-Some.found.kind.now c.deref.result.now g.F.Shelf.counts_with before after c.in_err-description.field-0.0 c.in-Some.ensures same front
+    (unformed_seen c.args.words.now c.in-Some.found.file_name.now c.in-Some.found.type_name.now c.deref.result.now g.F.Shelf.counts_with before after c.in_err-description.field-0.0 c.in-Some.ensures same front
     (λ lacks. absurd (let h = c.in_ok-text.ensures.lacking lacks in cc))
     (λ e. c.in_err-description.ensures.refused (ap (λ x. Err x) e)))
 
 pub returns-in-Some-def_named-clause-ready : goal.returns-in-Some-def_named-clause-ready
 returns-in-Some-def_named-clause-ready g c =
-    let name = c.in-Some.found.file.now in
-    let kind = c.in-Some.found.kind.now in
+    let name = c.in-Some.found.file_name.now in
+    let kind = c.in-Some.found.type_name.now in
     let text = c.deref.result.now in
     let before = g.F.Shelf.seen c.args.files.now in
     let after = g.F.Shelf.seen c.read_file.new.files in
@@ -47,8 +47,8 @@ returns-in-Some-def_named-clause-ready g c =
 
 pub returns-clause-refused : goal.returns-clause-refused
 returns-clause-refused g c =
-    let name = c.in-Some.found.file.now in
-    let kind = c.in-Some.found.kind.now in
+    let name = c.in-Some.found.file_name.now in
+    let kind = c.in-Some.found.type_name.now in
     let text = c.deref.result.now in
     let before = g.F.Shelf.seen c.args.files.now in
     let after = g.F.Shelf.seen c.read_file.new.files in
@@ -66,17 +66,17 @@ pub returns-in_err-text-clause-lacking : goal.returns-in_err-text-clause-lacking
 returns-in_err-text-clause-lacking g c =
     let p = err_from_is_err_and c.from_residual.result c.from_residual.ensures.1 in
     λ lacks.
-    let failed : c.in_err-text.field-0.0 ≡ Failed = let h = c.in_err-text.ensures.lacking (lacks_here c.args.words.now (g.F.Shelf.seen c.args.files.now) c.in-Some.found.file.now c.in-Some.found.kind.now c.in-Some.ensures lacks) in cc in
+    let failed : c.in_err-text.field-0.0 ≡ Failed = let h = c.in_err-text.ensures.lacking (lacks_here c.args.words.now (g.F.Shelf.seen c.args.files.now) c.in-Some.found.file_name.now c.in-Some.found.type_name.now c.in-Some.ensures lacks) in cc in
     rw (p.1, p.2) (ap (λ (e : FileFault). Err (from_file e)) failed)
 
 pub returns-in_err-description-clause-lacking : goal.returns-in_err-description-clause-lacking
 returns-in_err-description-clause-lacking g c =
-    λ lacks. absurd (no_text_lacking c.args.words.now (g.F.Shelf.seen c.args.files.now) c.in-Some.found.file.now c.in-Some.found.kind.now c.in_ok-text.text c.in-Some.ensures c.in_ok-text.ensures.lacking lacks)
+    λ lacks. absurd (no_text_lacking c.args.words.now (g.F.Shelf.seen c.args.files.now) c.in-Some.found.file_name.now c.in-Some.found.type_name.now c.in_ok-text.text c.in-Some.ensures c.in_ok-text.ensures.lacking lacks)
 
 pub returns-in-Some-def_named-clause-lacking : goal.returns-in-Some-def_named-clause-lacking
 returns-in-Some-def_named-clause-lacking g c =
-    λ lacks. absurd (no_text_lacking c.args.words.now (g.F.Shelf.seen c.args.files.now) c.in-Some.found.file.now c.in-Some.found.kind.now c.in_ok-text.text c.in-Some.ensures c.in_ok-text.ensures.lacking lacks)
+    λ lacks. absurd (no_text_lacking c.args.words.now (g.F.Shelf.seen c.args.files.now) c.in-Some.found.file_name.now c.in-Some.found.type_name.now c.in_ok-text.text c.in-Some.ensures c.in_ok-text.ensures.lacking lacks)
 
 pub returns-clause-lacking : goal.returns-clause-lacking
 returns-clause-lacking g c =
-    λ lacks. absurd (no_text_lacking c.args.words.now (g.F.Shelf.seen c.args.files.now) c.in-Some.found.file.now c.in-Some.found.kind.now c.in_ok-text.text c.in-Some.ensures c.in_ok-text.ensures.lacking lacks)
+    λ lacks. absurd (no_text_lacking c.args.words.now (g.F.Shelf.seen c.args.files.now) c.in-Some.found.file_name.now c.in-Some.found.type_name.now c.in_ok-text.text c.in-Some.ensures c.in_ok-text.ensures.lacking lacks)
