@@ -152,7 +152,8 @@ pub fn tool_main<F: Shelf, S: Source, K: Sink>(
     ensures not_built { result ≡ 1 → (file_name type_name text : List ℕ) × AreDecode words.now file_name type_name
         × FileSeen file_name (F.seen files.old) (F.seen files.new) (Some text)
         × ((d : Description) → FirstForm text d → ⊥) }
-    ensures type_refused { result ≡ 12 → (file_name type_name text : List ℕ) × (d : Description) × AreDecode words.now file_name type_name
+    ensures type_refused { result ≡ 12 → (file_name type_name text : List ℕ) × (d : Description)
+        × AreDecode words.now file_name type_name
         × FileSeen file_name (F.seen files.old) (F.seen files.new) (Some text)
         × FirstForm text d × ((def : ℕ) → Names d def type_name → ⊥) }
     // The file failed only where its count rose. It fails where its count rose or the shelf tells that there is none, and then
