@@ -4,7 +4,6 @@ use Rattle.std.specs.Option.{IfSome}
 use Rattle.std.specs.Prelude.{if◌then◌else◌, nat_le}
 use Rattle.std.proofs.lemmas.Bool.Decides.{nat_tests}
 use Rattle.std.proofs.lemmas.List.{length-take, take_all}
-use Rattle.node_tree.specs.Bits.{bits_of}
 use Rattle.mspec_meaning.specs.Stream.{Stream, End, TooFew, Refused}
 use Rattle.std.proofs.lemmas.Bool.{cases_eq}
 use Rattle.link_io.specs.Counts.{Rose}
@@ -17,7 +16,7 @@ use Rattle.plchost.specs.declared.inputs.How.TheVariants.{Ended, Failed, Over}
 use Rattle.plchost.specs.Lines.{lines_of}
 use Rattle.plchost.specs.Runs.{FileSeen, InputTaken, IsRun, Shown}
 use Rattle.plchost.specs.Told.{GivesSo, InputTold, IsTold, NoneFailed, TellsScript, TellsValues}
-use Rattle.plchost.specs.Tool.{AreDecode, ComesTo, Course, IsDecided, Said, Taken, Tool, WordsRefused, FileFault, NotBuilt, TypeRefused, Values, Answers, entries_said, input_limit, line_refused, said, script_said}
+use Rattle.plchost.specs.Tool.{AreDecode, ComesTo, Course, IsDecided, Said, Taken, Tool, WordsRefused, FileFault, NotBuilt, TypeRefused, Values, Answers, entries_said, input_limit, refusal_of_line, said, script_said}
 use Rattle.plchost.proofs.NoRefusal.{no_refusal}
 use Rattle.plchost.proofs.OneSaid.{one_said}
 use Rattle.plchost.proofs.StatusLemmas.{not_both}
@@ -73,7 +72,7 @@ without_input words file bytes u TypeRefused same comes decided =
 without_input words file bytes u (Values d def readings End) same comes decided = absurd decided
 without_input words file bytes u (Values d def readings (TooFew left)) same comes decided = absurd decided
 without_input words file bytes u (Values d def readings (Refused bit why)) same comes decided =
-    absurd (no_refusal comes.2 d def comes.1 0 (bits_of (take input_limit bytes)) readings bit why comes.5 comes.6 comes.7)
+    absurd (no_refusal comes.2 d def (take input_limit bytes) readings bit why comes.5 comes.7)
 without_input words file bytes u (Answers text end) same comes decided = absurd decided
 
 left_alone : (words : List (List ℕ)) (t u : Taken) (outcome : Said) → ((name kind : List ℕ) → AreDecode words name kind → u.file ≡ t.file) → t.how ≡ None → Tool words t outcome → Tool words u outcome
@@ -141,7 +140,7 @@ all_count bytes short = take_all input_limit bytes short
 pub values_well : (words : List (List ℕ)) (counts_with : List ℕ → List ℕ → Type 0) (before after : Shown) (status : ℕ) → IsRun words counts_with before after status → TellsValues words before.files before.input → NoneFailed words before after → (status ≡ 0) ⊎ (status ≡ 8)
 values_well words counts_with before after status run v well =
     let t : Taken = record { file = Some v.text; bytes = v.tape.left; how = Some Ended } in
-    let named : (name kind : List ℕ) → AreDecode words name kind → v.name ≡ name = λ name kind decode. (one_decode words v.name v.kind name kind v.are_decode decode).0 in
+    let named : (name kind : List ℕ) → AreDecode words name kind → v.file_name ≡ name = λ name kind decode. (one_decode words v.file_name v.type_name name kind v.are_decode decode).0 in
     let told : IsTold words before.files before.input t =
     record {
       from_file = λ name kind decode. (v.text, ap before.files.file (sym (named name kind decode)) ∙ v.file, refl);
@@ -149,7 +148,7 @@ values_well words counts_with before after status run v well =
     } in
     let stream = subst (λ (bytes : List ℕ). Stream v.d v.def [] bytes v.readings End) (sym (all_count v.tape.left v.within)) v.values in
     let tool : Tool words t (said (Some Ended) (Values v.d v.def v.readings End)) =
-    (Values v.d v.def v.readings End, (v.name, v.kind, v.text, v.are_decode, refl, v.form, v.names, stream), tt, refl) in
+    (Values v.d v.def v.readings End, (v.file_name, v.type_name, v.text, v.are_decode, refl, v.form, v.names, stream), tt, refl) in
     elim (complete words counts_with before after status run t (said (Some Ended) (Values v.d v.def v.readings End)) told tool well)
     [ inl eight ↦ inr eight | inr done ↦ inl done.0 ]
 
@@ -160,7 +159,7 @@ behind next past = grind (arith, nat_tests)
 past_second : (next entries : ℕ) → 2 < next → (script_said next entries).status ≡ 0
 past_second next entries past =
     let free : must_stand next ≡ false = behind next past in
-    ap (λ v. (if v then line_refused next else entries_said entries).status) free
+    ap (λ v. (if v then refusal_of_line next else entries_said entries).status) free
 
 pub script_well : (words : List (List ℕ)) (counts_with : List ℕ → List ℕ → Type 0) (before after : Shown) (status : ℕ) → IsRun words counts_with before after status → TellsScript words before.input → NoneFailed words before after → (status ≡ 0) ⊎ (status ≡ 8)
 script_well words counts_with before after status run s well =

@@ -1,18 +1,21 @@
 -- What a run comes to once the rest of its text is out.
-use Rattle.std.proofs.Common.{◌≡◌, ◌≢◌, ℕ, ◌⊎◌, List, [], ◌++◌, codes, Result, Ok, Err, refl, inl, inr, sym, ◌∙◌, subst, arith}
-use Rattle.std.specs.Result.{IfOk}
+use Rattle.std.proofs.Common.{◌≡◌, ◌≢◌, ℕ, ◌⊎◌, List, [], ◌++◌, codes, Result, Ok, Err, refl, inl, inr, sym, ap, ◌∙◌, subst, arith}
+use Rattle.std.specs.Result.{IfErr, IfOk}
 use Rattle.std.proofs.lemmas.Bool.{cases_eq}
 use Rattle.std.proofs.lemmas.List.{append-nil}
 use Rattle.link_io.specs.Counts.{Rose}
 use Rattle.link_io.specs.Streams.{ShelfSeen, SinkSeen, SourceSeen, after_taking}
 use Rattle.plchost.specs.declared.faults.Cut.{Cut}
 use Rattle.plchost.specs.declared.faults.Cut.TheVariants.{NoMemory, WriteFault}
+use Rattle.plchost.specs.declared.statuses.Status.{Status}
+use Rattle.plchost.specs.declared.statuses.Status.TheVariants.{Well, NotBuilt, WordsRefused, FileFault, ReadFault, ValueRefused, Truncated, LineRefused, TypeRefused, TooLong}
+use Rattle.plchost.specs.Statuses.{number_of}
 use Rattle.plchost.specs.Runs.{IsRun, PutsFront, RunsTo, StopsEarly, last_of, shown}
 use Rattle.plchost.proofs.RunLemmas.{all_said, front_said, last_said_too}
 use Rattle.plchost.proofs.StatusLemmas.{cut_status}
 use Rattle.plchost.proofs.ToolLemmas.{front_of_tool}
 
-pub concluded : (words : List (List ℕ)) (counts_with : List ℕ → List ℕ → Type 0) (files files' : ShelfSeen) (input input' : SourceSeen) (o0 o1 o2 : SinkSeen) (t0 t1 out : List ℕ) (ran : Result ℕ Cut) (status : ℕ) → t0 ≡ [] → out ≡ t1
+pub concluded : (words : List (List ℕ)) (counts_with : List ℕ → List ℕ → Type 0) (files files' : ShelfSeen) (input input' : SourceSeen) (o0 o1 o2 : SinkSeen) (t0 t1 out : List ℕ) (ran : Result Status Cut) (status : ℕ) → t0 ≡ [] → out ≡ t1
     → RunsTo words counts_with (shown files input o0) (shown files' input' o1) t0 t1 ran
     → (status ≢ 5 → (status ≡ (last_of ran).status) × (o2.held ≡ after_taking (out ++ (last_of ran).text) o1.held) × (o2.faults ≡ o1.faults))
     → (status ≡ 5 → ran ≢ Err WriteFault → PutsFront o1.held o2.held (out ++ (last_of ran).text) × Rose o1.faults o2.faults)
@@ -70,19 +73,37 @@ early_status status (inr (inr (inl three))) = (λ e. absurd (omega (arith, e, th
 early_status status (inr (inr (inr twelve))) = (λ e. absurd (omega (arith, e, twelve)), λ e. absurd (omega (arith, e, twelve)))
 
 -- a run that stops early came to the status that it answers
-pub early_of : (ran : Result ℕ Cut) (status : ℕ) (P : Type 0) → (status ≢ 5 → status ≡ (last_of ran).status) → StopsEarly status → IfOk ran (λ n. StopsEarly n → P) → P
+pub early_of : (ran : Result Status Cut) (status : ℕ) (P : Type 0) → (status ≢ 5 → status ≡ (last_of ran).status) → StopsEarly status → IfOk ran (λ s. StopsEarly (number_of s) → P) → P
 early_of (Ok n) status P done early then = then (subst StopsEarly (done (early_status status early).0) early)
 early_of (Err NoMemory) status P done early then =
     let known = early_status status early in absurd (known.1 (done known.0))
 early_of (Err WriteFault) status P done early then =
     let known = early_status status early in absurd (known.0 (done known.0))
 
--- so did a run whose file there isn't
-lacking_at : (ran : Result ℕ Cut) (status : ℕ) → status ≡ (last_of ran).status → IfOk ran (λ n. n ≡ 3) → (status ≡ 3) ⊎ ((status ≡ 5) ⊎ (status ≡ 8))
-lacking_at (Ok n) status done three = inl (done ∙ three)
-lacking_at (Err NoMemory) status done three = inr (inr done)
-lacking_at (Err WriteFault) status done three = inr (inl done)
+-- what comes of a run whose file failed
+abbrev pub IsFileFault : Result Status Cut → Type 0
+IsFileFault ran = (ran ≡ Ok FileFault) ⊎ (ran ≡ Err NoMemory)
 
-pub lacking_of : (ran : Result ℕ Cut) (status : ℕ) → (status ≢ 5 → status ≡ (last_of ran).status) → IfOk ran (λ n. n ≡ 3) → (status ≡ 3) ⊎ ((status ≡ 5) ⊎ (status ≡ 8))
-lacking_of ran status done three =
-    elim (cases_eq status 5) [ inl five ↦ inr (inl five) | inr well ↦ lacking_at ran status (done well) three ]
+file_fault_at_3 : (status : Status) → number_of status ≡ 3 → status ≡ FileFault
+file_fault_at_3 Well e = absurd (omega (arith, e))
+file_fault_at_3 NotBuilt e = absurd (omega (arith, e))
+file_fault_at_3 WordsRefused e = absurd (omega (arith, e))
+file_fault_at_3 FileFault e = refl
+file_fault_at_3 ReadFault e = absurd (omega (arith, e))
+file_fault_at_3 ValueRefused e = absurd (omega (arith, e))
+file_fault_at_3 Truncated e = absurd (omega (arith, e))
+file_fault_at_3 LineRefused e = absurd (omega (arith, e))
+file_fault_at_3 TypeRefused e = absurd (omega (arith, e))
+file_fault_at_3 TooLong e = absurd (omega (arith, e))
+
+pub three_or_none : (ran : Result Status Cut) → IfOk ran (λ status. number_of status ≡ 3) → IfErr ran (λ cut. cut ≡ NoMemory) → IsFileFault ran
+three_or_none (Ok status) three none = inl (ap (λ (s : Status). Ok s) (file_fault_at_3 status three))
+three_or_none (Err cut) three none = inr (ap (λ (c : Cut). Err c) none)
+
+lacking_at : (ran : Result Status Cut) (status : ℕ) → status ≡ (last_of ran).status → IsFileFault ran → (status ≡ 3) ⊎ ((status ≡ 5) ⊎ (status ≡ 8))
+lacking_at ran status done (inl three) = inl (done ∙ ap (λ (r : Result Status Cut). (last_of r).status) three)
+lacking_at ran status done (inr none) = inr (inr (done ∙ ap (λ (r : Result Status Cut). (last_of r).status) none))
+
+pub lacking_of : (ran : Result Status Cut) (status : ℕ) → (status ≢ 5 → status ≡ (last_of ran).status) → IsFileFault ran → (status ≡ 3) ⊎ ((status ≡ 5) ⊎ (status ≡ 8))
+lacking_of ran status done failed =
+    elim (cases_eq status 5) [ inl five ↦ inr (inl five) | inr well ↦ lacking_at ran status (done well) failed ]

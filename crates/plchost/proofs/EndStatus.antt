@@ -17,7 +17,7 @@ use Rattle.plchost.specs.declared.inputs.How.{How}
 use Rattle.plchost.specs.declared.inputs.How.TheVariants.{Ended, Failed, Over}
 use Rattle.plchost.specs.Lines.{lines_of}
 use Rattle.plchost.specs.Runs.{FileTaken, InputTaken, Shown, Took, WasDecoded, WasReplayed}
-use Rattle.plchost.specs.Tool.{ComesTo, Course, IsDecided, Said, Taken, Tool, WordsRefused, FileFault, NotBuilt, TypeRefused, Values, Answers, entries_said, input_limit, last_said, line_refused, said, script_said}
+use Rattle.plchost.specs.Tool.{ComesTo, Course, IsDecided, Said, Taken, Tool, WordsRefused, FileFault, NotBuilt, TypeRefused, Values, Answers, entries_said, input_limit, last_said, refusal_of_line, said, script_said}
 use Rattle.plchost.proofs.StatusLemmas.{not_script}
 
 -- ---- values
@@ -77,7 +77,7 @@ AnsweredBy lines text last =
 
 answered_to_the_end : (lines : List (List ℕ)) (text : List ℕ) (next entries : ℕ) → Script lines text (Answered next entries) → (script_said next entries).status ≡ 0 → AnsweredBy lines text (script_said next entries).text
 answered_to_the_end lines text next entries script e =
-    elim (must_stand next) as (λ v. must_stand next ≡ v → (if v then line_refused next else entries_said entries).status ≡ 0 → AnsweredBy lines text (if v then line_refused next else entries_said entries).text) [
+    elim (must_stand next) as (λ v. must_stand next ≡ v → (if v then refusal_of_line next else entries_said entries).status ≡ 0 → AnsweredBy lines text (if v then refusal_of_line next else entries_said entries).text) [
       | true ↦ λ past h. absurd (omega (arith, h))
       | false ↦ λ past h.
           let two = behind_second next past in

@@ -9,8 +9,8 @@ use Rattle.std.proofs.lemmas.Slice.Eq.{bytes_eq-Decides}
 use Rattle.std.proofs.lemmas.Option.{none-some, option_and_then_some}
 use Rattle.plchost.specs.FirstForm.{IsName, Token, Open, Close, Word, BeginsWith, PlainField, names_of, Differ, AreFields, field_tokens}
 use Rattle.plchost.specs.declared.plain_types.ReadField.{ReadField}
-use Rattle.plchost.specs.FormReaders.{seen, symbol_of, keyword_of, name_of, number_of, field_of, head_of, then_close, AreAllFields}
-use Rattle.plchost.proofs.TokenLaws.{open-sound, open-complete, close-sound, close-complete, open_or_close, keyword-sound, keyword-complete, false_unless, name-sound, name-complete, number-sound, number-complete}
+use Rattle.plchost.specs.FormReaders.{seen, symbol_of, keyword_of, name_of, width_of, field_of, head_of, then_close, AreAllFields}
+use Rattle.plchost.proofs.TokenLaws.{open-sound, open-complete, close-sound, close-complete, open_or_close, keyword-sound, keyword-complete, false_unless, name-sound, name-complete, width-sound, width-complete}
 
 -- ---- tokens one after another
 
@@ -35,7 +35,7 @@ field-sound text f rest h =
     option_and_then_some _ (symbol_of 91 text) (f, rest) h (λ a ha h1.
     option_and_then_some _ (keyword_of (codes "simple") a) (f, rest) h1 (λ b hb h2.
     option_and_then_some _ (keyword_of (codes "uint") b) (f, rest) h2 (λ c hc h3.
-    option_and_then_some _ (number_of c) (f, rest) h3 (λ w hw h4.
+    option_and_then_some _ (width_of c) (f, rest) h3 (λ w hw h4.
     option_and_then_some _ (name_of w.1) (f, rest) h4 (λ n hn h5.
     option_and_then_some _ (symbol_of 93 n.1) (f, rest) h5 (λ e he h6.
     let named = name-sound w.1 n.0 n.1 hn in
@@ -53,7 +53,7 @@ field-sound text f rest h =
             keyword-sound (codes "uint") b c hc,
             (
               w.1,
-              number-sound c w.0 w.1 hw,
+              width-sound c w.0 w.1 hw,
               (
                 n.1,
                 named.0,
@@ -72,7 +72,7 @@ field-complete text f rest h named =
     let a = open-complete text h.0 h.1 in
     let b = keyword-complete h.0 (codes "simple") h.2.0 h.2.1 in
     let c = keyword-complete h.2.0 (codes "uint") h.2.2.0 h.2.2.1 in
-    let d = number-complete h.2.2.0 f.width h.2.2.2.0 h.2.2.2.1 in
+    let d = width-complete h.2.2.0 f.width h.2.2.2.0 h.2.2.2.1 in
     let e = name-complete h.2.2.2.0 f.name h.2.2.2.2.0 h.2.2.2.2.1 named in
     let g = close-complete h.2.2.2.2.0 h.2.2.2.2.2.0 h.2.2.2.2.2.1 in
     rw (a, b, c, d, e, g) (ap (λ r. Some (f, r)) h.2.2.2.2.2.2)

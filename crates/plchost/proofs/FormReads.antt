@@ -1,5 +1,5 @@
 -- A description in the first form can be read.
-use Rattle.std.proofs.Common.{◌≡◌, ℕ, zero, suc, List, [], ◌∷◌, length, map, slice_get, Some, refl, inl, inr, sym, ap, ◌∙◌, subst, arith}
+use Rattle.std.proofs.Common.{◌≡◌, ℕ, zero, suc, List, [], ◌∷◌, map, slice_get, Some, refl, inl, inr, sym, ap, ◌∙◌, subst, arith}
 use Rattle.std.proofs.lemmas.Option.{slice_get_within}
 use Rattle.mspec_tree.specs.declared.words.Simple.TheVariants.{Uint}
 use Rattle.mspec_tree.specs.declared.exprs.Ref.TheVariants.{Plain as PlainRef}
@@ -37,6 +37,3 @@ pub form_reads : (text : List ℕ) (d : Description) (def : ℕ) (name : List �
 form_reads text d def name form named =
     subst (λ (t : Description). CanRead t def []) (sym form.4)
     (tree_reads form.0 def named.0 (ap (λ (t : Description). slice_get t.defs def) (sym form.4) ∙ named.1))
-
-pub form_short : (text : List ℕ) (d : Description) → FirstForm text d → length d.defs ≡ 1
-form_short text d form = ap (λ (t : Description). length t.defs) form.4

@@ -1,10 +1,9 @@
 -- What was taken from an input, piece by piece.
-use Rattle.std.proofs.Common.{◌≡◌, ◌≢◌, ℕ, ◌+◌, ◌≤◌, List, [], ◌++◌, length, Option, Some, None, inl, inr, sym, ap, ◌∙◌, subst, arith}
+use Rattle.std.proofs.Common.{◌≡◌, ◌≢◌, ℕ, ◌+◌, ◌≤◌, List, ◌++◌, length, Option, Some, None, inl, inr, sym, ap, ◌∙◌, subst, arith}
 use Rattle.std.proofs.lemmas.Bool.{cases_eq}
-use Rattle.link_io.specs.Counts.{Rose}
-use Rattle.link_io.specs.Streams.{SourceSeen, Tape, after_giving, AreNext, IsAtEnd, after_giving-nil, after_giving-append, AreNext-append}
+use Rattle.link_io.specs.Streams.{SourceSeen, Tape, after_giving, AreNext, after_giving-append, AreNext-append}
 use Rattle.plchost.specs.declared.inputs.How.{How}
-use Rattle.plchost.specs.declared.inputs.How.TheVariants.{Ended, Failed, Over}
+use Rattle.plchost.specs.declared.inputs.How.TheVariants.{Ended, Over}
 use Rattle.plchost.specs.Runs.{InputTaken}
 
 -- one more piece
@@ -14,20 +13,6 @@ given_more t0 t1 t2 bytes piece a b = b ∙ ap (after_giving piece) a ∙ sym (a
 pub next_more : (t0 t1 : Option Tape) (bytes piece : List ℕ) → t1 ≡ after_giving bytes t0 → AreNext bytes t0 → AreNext piece t1 → AreNext (bytes ++ piece) t0
 next_more t0 t1 bytes piece a next more =
     AreNext-append bytes piece t0 next (subst (λ (t : Option Tape). AreNext piece t) a more)
-
-pub taken_ended : (s0 s1 s2 : SourceSeen) (bytes : List ℕ) → s1.tape ≡ after_giving bytes s0.tape → s2.tape ≡ after_giving [] s1.tape → AreNext bytes s0.tape → IsAtEnd s1.tape → Rose s0.ends s2.ends → s2.faults ≡ s0.faults → length bytes ≤ 16777216 → InputTaken s0 s2 bytes (Some Ended)
-taken_ended s0 s1 s2 bytes a b next end rose same short =
-    let still = b ∙ after_giving-nil s1.tape in
-    record {
-      given = still ∙ a;
-      next = next;
-      at_end = λ _. subst (λ (t : Option Tape). IsAtEnd t) (sym still) end;
-      left = (rose, same, short);
-    }
-
-pub taken_failed : (s0 s1 s2 : SourceSeen) (bytes : List ℕ) → s1.tape ≡ after_giving bytes s0.tape → s2.tape ≡ s1.tape → AreNext bytes s0.tape → s2.ends ≡ s0.ends → Rose s0.faults s2.faults → length bytes ≤ 16777216 → InputTaken s0 s2 bytes (Some Failed)
-taken_failed s0 s1 s2 bytes a b next same rose short =
-    record { given = b ∙ a; next = next; at_end = λ e. absurd (let h : Some Failed ≡ Some Ended = e in cc); left = (same, rose, short) }
 
 pub taken_over : (s0 s1 : SourceSeen) (bytes : List ℕ) → s1.tape ≡ after_giving bytes s0.tape → AreNext bytes s0.tape → s1.ends ≡ s0.ends → s1.faults ≡ s0.faults → length bytes ≡ 16777217 → InputTaken s0 s1 bytes (Some Over)
 taken_over s0 s1 bytes a next ends faults long =

@@ -26,7 +26,7 @@ use Rattle.plchost.specs.declared.tokens.Width.{Width}
 use Rattle.plchost.specs.declared.tokens.Width.TheVariants.{Bits8, Bits16, Bits32, Bits64}
 use Rattle.plchost.specs.FirstForm.{FirstForm, IsPlain, PlainField, PlainType, bits, field_tree, no_place, tree_of}
 use Rattle.plchost.proofs.StatusLemmas.{not_script}
-use Rattle.plchost.specs.Tool.{Names, ComesTo, Course, WordsRefused, FileFault, NotBuilt, TypeRefused, Values, Answers, Taken, input_limit, last_said, said}
+use Rattle.plchost.specs.Tool.{ComesTo, Course, WordsRefused, FileFault, NotBuilt, TypeRefused, Values, Answers, Taken, input_limit, last_said, said}
 
 -- ---- numbers
 
@@ -129,22 +129,22 @@ none_refused : (p : PlainType) → IsPlain p → (def at : ℕ) (all : List Bool
 none_refused p plain def at all [] bit why from = not_refused p plain def at all bit why from
 none_refused p plain def at all (reading ∷ readings) bit why from = none_refused p plain def (at + reading.bits) (drop reading.bits all) readings bit why from.4
 
-pub no_refusal : (text : List ℕ) (d : Description) (def : ℕ) (kind : List ℕ) (at : ℕ) (bits : List Bool) (readings : List Reading) (bit : ℕ) (why : Why) → FirstForm text d → Names d def kind → StreamFrom d def [] at bits readings (Refused bit why) → ⊥
-no_refusal text d def kind at bits readings bit why form named from =
-    none_refused form.0 form.2 def at bits readings bit why
-    (subst (λ (t : Description). StreamFrom t def [] at bits readings (Refused bit why)) form.4 from)
+pub no_refusal : (text : List ℕ) (d : Description) (def : ℕ) (bytes : List ℕ) (readings : List Reading) (bit : ℕ) (why : Why) → FirstForm text d → Stream d def [] bytes readings (Refused bit why) → ⊥
+no_refusal text d def bytes readings bit why form stream =
+    none_refused form.0 form.2 def 0 (bits_of bytes) readings bit why
+    (subst (λ (t : Description). Stream t def [] bytes readings (Refused bit why)) form.4 stream)
 
 -- so no run over the first form has the status 6
-pub never_6 : (text : List ℕ) (d : Description) (def : ℕ) (kind : List ℕ) (bytes : List ℕ) (readings : List Reading) (how : Option How) (ending : Ending) → FirstForm text d → Names d def kind → Stream d def [] bytes readings ending → (last_said how ending).status ≢ 6
-never_6 text d def kind bytes readings how (Refused bit why) form named stream e = no_refusal text d def kind 0 (bits_of bytes) readings bit why form named stream
-never_6 text d def kind bytes readings None End form named stream e = absurd (omega (arith, e))
-never_6 text d def kind bytes readings None (TooFew left) form named stream e = absurd (omega (arith, e))
-never_6 text d def kind bytes readings (Some Ended) End form named stream e = absurd (omega (arith, e))
-never_6 text d def kind bytes readings (Some Ended) (TooFew left) form named stream e = absurd (omega (arith, e))
-never_6 text d def kind bytes readings (Some Failed) End form named stream e = absurd (omega (arith, e))
-never_6 text d def kind bytes readings (Some Failed) (TooFew left) form named stream e = absurd (omega (arith, e))
-never_6 text d def kind bytes readings (Some Over) End form named stream e = absurd (omega (arith, e))
-never_6 text d def kind bytes readings (Some Over) (TooFew left) form named stream e = absurd (omega (arith, e))
+pub never_6 : (text : List ℕ) (d : Description) (def : ℕ) (bytes : List ℕ) (readings : List Reading) (how : Option How) (ending : Ending) → FirstForm text d → Stream d def [] bytes readings ending → (last_said how ending).status ≢ 6
+never_6 text d def bytes readings how (Refused bit why) form stream e = no_refusal text d def bytes readings bit why form stream
+never_6 text d def bytes readings None End form stream e = absurd (omega (arith, e))
+never_6 text d def bytes readings None (TooFew left) form stream e = absurd (omega (arith, e))
+never_6 text d def bytes readings (Some Ended) End form stream e = absurd (omega (arith, e))
+never_6 text d def bytes readings (Some Ended) (TooFew left) form stream e = absurd (omega (arith, e))
+never_6 text d def bytes readings (Some Failed) End form stream e = absurd (omega (arith, e))
+never_6 text d def bytes readings (Some Failed) (TooFew left) form stream e = absurd (omega (arith, e))
+never_6 text d def bytes readings (Some Over) End form stream e = absurd (omega (arith, e))
+never_6 text d def bytes readings (Some Over) (TooFew left) form stream e = absurd (omega (arith, e))
 
 -- no run by a description in the first form has the status of a refused value
 pub no_status_6 : (words : List (List ℕ)) (t : Taken) (course : Course) → ComesTo words t course → (said t.how course).status ≢ 6
@@ -153,5 +153,5 @@ no_status_6 words t FileFault comes e = absurd (omega (arith, e))
 no_status_6 words t NotBuilt comes e = absurd (omega (arith, e))
 no_status_6 words t TypeRefused comes e = absurd (omega (arith, e))
 no_status_6 words t (Values d def readings ending) comes e =
-    never_6 comes.2 d def comes.1 (take input_limit t.bytes) readings t.how ending comes.5 comes.6 comes.7 e
+    never_6 comes.2 d def (take input_limit t.bytes) readings t.how ending comes.5 comes.7 e
 no_status_6 words t (Answers text end) comes e = not_script t.how end 6 refl (sym e)

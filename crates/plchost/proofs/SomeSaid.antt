@@ -46,10 +46,10 @@ three_words a b c =
     elim (same_or_not a (codes "decode")) [
       | inr other ↦ inr (λ name kind decode. other (head_is a b c name kind decode.spelled).0)
       | inl command ↦ elim (positional_or_not b) [
-        | inr other ↦ inr (λ name kind decode. other (subst IsPositional (sym (head_is a b c name kind decode.spelled).1) decode.name_word))
+        | inr other ↦ inr (λ name kind decode. other (subst IsPositional (sym (head_is a b c name kind decode.spelled).1) decode.file_word))
         | inl file ↦ elim (positional_or_not c) [
-          | inr other ↦ inr (λ name kind decode. other (subst IsPositional (sym (head_is a b c name kind decode.spelled).2) decode.kind_word))
-          | inl type ↦ inl (b, c, record { spelled = ap (λ word. word ∷ b ∷ c ∷ []) command; name_word = file; kind_word = type })
+          | inr other ↦ inr (λ name kind decode. other (subst IsPositional (sym (head_is a b c name kind decode.spelled).2) decode.type_word))
+          | inl type ↦ inl (b, c, record { spelled = ap (λ word. word ∷ b ∷ c ∷ []) command; file_word = file; type_word = type })
         ]
       ]
     ]

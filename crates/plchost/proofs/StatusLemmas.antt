@@ -11,7 +11,7 @@ use Rattle.plchost.specs.declared.inputs.How.TheVariants.{Ended, Failed, Over}
 use Rattle.plchost.specs.Runs.{StopsEarly, FileSeen, InputTaken, LeftSo}
 use Rattle.script_replay.specs.declared.replays.ScriptEnd.{ScriptEnd}
 use Rattle.script_replay.specs.declared.replays.ScriptEnd.TheVariants.{Answered, Refused as LineRefused}
-use Rattle.plchost.specs.Tool.{AreDecode, AreReplay, AreRefused, ComesTo, Course, Said, Taken, Tool, WordsRefused, FileFault, NotBuilt, TypeRefused, Values, Answers, IsDecided, entries_said, last_said, line_refused, script_said, script_last, said}
+use Rattle.plchost.specs.Tool.{AreDecode, AreReplay, AreRefused, ComesTo, Course, Said, Taken, Tool, WordsRefused, FileFault, NotBuilt, TypeRefused, Values, Answers, IsDecided, entries_said, last_said, refusal_of_line, script_said, script_last, said}
 
 -- the statuses of values
 abbrev is_last : ℕ → Bool
@@ -52,7 +52,7 @@ is_script s = s == 0 || s == 4 || s == 10 || s == 13
 
 said_status : (next entries : ℕ) → is_script (script_said next entries).status ≡ true
 said_status next entries =
-    elim (must_stand next) as (λ v. is_script (if v then line_refused next else entries_said entries).status ≡ true)
+    elim (must_stand next) as (λ v. is_script (if v then refusal_of_line next else entries_said entries).status ≡ true)
     [ true ↦ refl | false ↦ refl ]
 
 script_status : (how : Option How) (end : ScriptEnd) → is_script (script_last how end).status ≡ true
@@ -78,7 +78,7 @@ script_not_early how end s early e =
 
 not_said : (next entries s : ℕ) → s ≡ (script_said next entries).status → s ≢ 0 → s ≢ 10 → ⊥
 not_said next entries s e not_0 not_10 =
-    elim (must_stand next) as (λ v. s ≡ (if v then line_refused next else entries_said entries).status → ⊥)
+    elim (must_stand next) as (λ v. s ≡ (if v then refusal_of_line next else entries_said entries).status → ⊥)
     [ true ↦ λ h. not_10 h | false ↦ λ h. not_0 h ] e
 
 script_at_4 : (how : Option How) (end : ScriptEnd) (before after : SourceSeen) (taken : List ℕ) → (script_last how end).status ≡ 4 → LeftSo how before after taken → Rose before.faults after.faults
@@ -102,7 +102,7 @@ is_status s = is_last s || s == 10 || s == 1 || s == 2 || s == 3 || s == 12
 
 script_said_status : (next entries : ℕ) → is_status (script_said next entries).status ≡ true
 script_said_status next entries =
-    elim (must_stand next) as (λ v. is_status (if v then line_refused next else entries_said entries).status ≡ true)
+    elim (must_stand next) as (λ v. is_status (if v then refusal_of_line next else entries_said entries).status ≡ true)
     [ true ↦ refl | false ↦ refl ]
 
 course_status : (how : Option How) (course : Course) → is_status (said how course).status ≡ true

@@ -12,8 +12,8 @@ use Rattle.std.proofs.lemmas.Option.{option_and_then_some, cond_some}
 use Rattle.std.proofs.lemmas.Slice.Eq.{bytes_eq-Decides}
 use Rattle.plchost.specs.declared.tokens.Width.{Width}
 use Rattle.plchost.specs.declared.tokens.Width.TheVariants.{Bits8, Bits16, Bits32, Bits64}
-use Rattle.plchost.specs.FirstForm.{is_blank, begins_word, continues_word, AllBlank, IsWord, IsName, reserved, Token, Open, Close, Word, Number, digits, spelling, IsToken, StopsAt, Ends, Begins}
-use Rattle.plchost.specs.FormReaders.{front, behind, symbol_at, symbol_of, word_at, word_of, keyword_of, name_of, width_spelled, number_at, number_of}
+use Rattle.plchost.specs.FirstForm.{is_blank, begins_word, continues_word, IsWord, IsName, reserved, Token, Open, Close, Word, Number, digits, spelling, IsToken, StopsAt, IsLongestBefore, Begins}
+use Rattle.plchost.specs.FormReaders.{front, behind, symbol_at, symbol_of, word_at, word_of, keyword_of, name_of, width_spelled, width_at, width_of}
 use Rattle.plchost.proofs.Fronts.{front_all, behind_all, parted, front_passes, behind_stops}
 
 pair : {A B : Type 0} {a c : A} {b d : B} → a ≡ c → b ≡ d → ◌≡◌ {A = A × B} (a, b) (c, d)
@@ -21,22 +21,18 @@ pair {c} {b} e f = ap (λ x. (x, b)) e ∙ ap (λ y. (c, y)) f
 
 -- ---- blanks before a token
 
-behind_gap : (gap bytes : List ℕ) → AllBlank gap → behind is_blank (gap ++ bytes) ≡ behind is_blank bytes
-behind_gap [] bytes h = refl
-behind_gap (b ∷ gap) bytes h = rw h.0 (behind_gap gap bytes h.1)
-
 -- what stands behind the blanks is the token and the rest
 begins_behind : (text : List ℕ) (token : Token) (rest : List ℕ) → Begins text token rest → StopsAt is_blank (spelling token ++ rest) → behind is_blank text ≡ spelling token ++ rest
 begins_behind text token rest h stops = ap (behind is_blank) h.split ∙ behind_all is_blank h.gap (spelling token ++ rest) h.blank stops
 
-begins_from : (text : List ℕ) (token : Token) (rest : List ℕ) → IsToken token → behind is_blank text ≡ spelling token ++ rest → Ends token rest → Begins text token rest
-begins_from text token rest is_token is ends =
+begins_from : (text : List ℕ) (token : Token) (rest : List ℕ) → IsToken token → behind is_blank text ≡ spelling token ++ rest → IsLongestBefore token rest → Begins text token rest
+begins_from text token rest is_token is longest =
     record {
       gap = front is_blank text;
       blank = front_passes is_blank text;
       is_token = is_token;
       split = parted is_blank text ∙ ap (λ x. front is_blank text ++ x) is;
-      ends = ends;
+      longest = longest;
     }
 
 -- ---- brackets
@@ -104,7 +100,7 @@ word_at-complete (b ∷ bs) rest h stops =
 pub word-complete : (text word rest : List ℕ) → Begins text (Word word) rest → word_of text ≡ Some (word, rest)
 unfolding word_of
 word-complete text word rest h =
-    ap word_at (begins_behind text (Word word) rest h (word_stops word rest h.is_token)) ∙ word_at-complete word rest h.is_token h.ends
+    ap word_at (begins_behind text (Word word) rest h (word_stops word rest h.is_token)) ∙ word_at-complete word rest h.is_token h.longest
 
 -- what `word_at` gives is a word and what follows it
 record IsCut (bytes word rest : List ℕ) : Type 0 where
@@ -203,16 +199,16 @@ spelled Bits16 = refl
 spelled Bits32 = refl
 spelled Bits64 = refl
 
-number_at-complete : (w : Width) (rest : List ℕ) → StopsAt is_ascii_digit rest → number_at (digits w ++ rest) ≡ Some (w, rest)
-number_at-complete w rest stops =
+width_at-complete : (w : Width) (rest : List ℕ) → StopsAt is_ascii_digit rest → width_at (digits w ++ rest) ≡ Some (w, rest)
+width_at-complete w rest stops =
     let f = front_all is_ascii_digit (digits w) rest (digits_pass w) stops in
     let g = behind_all is_ascii_digit (digits w) rest (digits_pass w) stops in
     rw (f, spelled w) (ap (λ r. Some (w, r)) g)
 
-pub number-complete : (text : List ℕ) (w : Width) (rest : List ℕ) → Begins text (Number w) rest → number_of text ≡ Some (w, rest)
-unfolding number_of
-number-complete text w rest h =
-    ap number_at (begins_behind text (Number w) rest h (digits_stop w rest)) ∙ number_at-complete w rest h.ends
+pub width-complete : (text : List ℕ) (w : Width) (rest : List ℕ) → Begins text (Number w) rest → width_of text ≡ Some (w, rest)
+unfolding width_of
+width-complete text w rest h =
+    ap width_at (begins_behind text (Number w) rest h (digits_stop w rest)) ∙ width_at-complete w rest h.longest
 
 -- one test of the chain
 spelled_test : (t : Bool) (v w : Width) (others : Option Width) → cond t (Some v) others ≡ Some w → ((t ≡ true) × (v ≡ w)) ⊎ (others ≡ Some w)
@@ -238,9 +234,9 @@ spelled-sound ds w h =
           ]
     ]
 
-pub number-sound : (text : List ℕ) (w : Width) (rest : List ℕ) → number_of text ≡ Some (w, rest) → Begins text (Number w) rest
-unfolding number_of
-number-sound text w rest h =
+pub width-sound : (text : List ℕ) (w : Width) (rest : List ℕ) → width_of text ≡ Some (w, rest) → Begins text (Number w) rest
+unfolding width_of
+width-sound text w rest h =
     let u = behind is_blank text in
     option_and_then_some _ (width_spelled (front is_ascii_digit u)) (w, rest) h (λ v found end.
     let is = parted is_ascii_digit u ∙ ap (λ x. x ++ behind is_ascii_digit u) (spelled-sound (front is_ascii_digit u) v found) in

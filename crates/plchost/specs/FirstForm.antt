@@ -1,4 +1,4 @@
--- The first form of a description: one type, whose fields are unsigned numbers of whole bytes.
+-- The first form of a description: one type, whose fields are unsigned numbers of 8, 16, 32 or 64 bits.
 use Rattle.std.specs.Prelude.{◌≡◌, ◌≢◌, ◌≤◌, ◌==◌, ◌||◌, ℕ, Bool, false, List, [], ◌∷◌, ◌++◌, length, map, codes, None, IsTrue}
 use Rattle.std.specs.Char.{is_ascii_digit, is_ascii_alphabetic}
 use Rattle.std.specs.List.{AllByRecursion, Contains, flat_map}
@@ -82,11 +82,11 @@ StopsAt test [] = Unit {0}
 StopsAt test (b ∷ bs) = test b ≡ false
 
 -- the token is the longest that can stand before these bytes
-abbrev pub Ends : Token → List ℕ → Type 0
-Ends Open rest = Unit {0}
-Ends Close rest = Unit {0}
-Ends (Word word) rest = StopsAt continues_word rest
-Ends (Number width) rest = StopsAt is_ascii_digit rest
+abbrev pub IsLongestBefore : Token → List ℕ → Type 0
+IsLongestBefore Open rest = Unit {0}
+IsLongestBefore Close rest = Unit {0}
+IsLongestBefore (Word word) rest = StopsAt continues_word rest
+IsLongestBefore (Number width) rest = StopsAt is_ascii_digit rest
 
 -- behind blanks, or none, the token stands at the front of the text, and the rest follows it
 pub record Begins (text : List ℕ) (token : Token) (rest : List ℕ) : Type 0 where
@@ -94,7 +94,7 @@ pub record Begins (text : List ℕ) (token : Token) (rest : List ℕ) : Type 0 w
   pub blank : AllBlank gap
   pub is_token : IsToken token
   pub split : text ≡ gap ++ (spelling token ++ rest)
-  pub ends : Ends token rest
+  pub longest : IsLongestBefore token rest
 
 -- the tokens stand one after another at the front of the text, and the rest follows them
 abbrev pub BeginsWith : List ℕ → List Token → List ℕ → Type 0

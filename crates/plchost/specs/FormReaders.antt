@@ -67,13 +67,13 @@ width_spelled ds =
     else (if bytes_eq ds (codes "32") then Some Bits32
     else (if bytes_eq ds (codes "64") then Some Bits64 else None)))
 
-abbrev pub number_at : List ℕ → Option (Width × List ℕ)
-number_at text = do
+abbrev pub width_at : List ℕ → Option (Width × List ℕ)
+width_at text = do
   w ← width_spelled (front is_ascii_digit text)
   Some (w, behind is_ascii_digit text)
 
-unfoldable pub number_of : List ℕ → Option (Width × List ℕ)
-number_of text = number_at (behind is_blank text)
+unfoldable pub width_of : List ℕ → Option (Width × List ℕ)
+width_of text = width_at (behind is_blank text)
 
 -- a field without where its name lies in memory
 abbrev pub seen : ReadField → PlainField
@@ -84,7 +84,7 @@ field_of text = do
   a ← symbol_of 91 text
   b ← keyword_of (codes "simple") a
   c ← keyword_of (codes "uint") b
-  w ← number_of c
+  w ← width_of c
   n ← name_of w.1
   rest ← symbol_of 93 n.1
   Some (record { name = n.0; width = w.0 }, rest)

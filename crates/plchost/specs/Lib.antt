@@ -5,5 +5,6 @@ pub mod Lines
 pub mod Listing
 pub mod Preparing
 pub mod Runs
+pub mod Statuses
 pub mod Told
 pub mod Tool

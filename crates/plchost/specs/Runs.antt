@@ -7,6 +7,7 @@ use Rattle.plchost.specs.declared.faults.Cut.{Cut}
 use Rattle.plchost.specs.declared.faults.Cut.TheVariants.{NoMemory, WriteFault}
 use Rattle.plchost.specs.declared.inputs.How.{How}
 use Rattle.plchost.specs.declared.inputs.How.TheVariants.{Ended, Failed, Over}
+use Rattle.plchost.specs.declared.statuses.Status.{Status}
 use Rattle.mspec_tree.specs.declared.defs.Description.{Description}
 use Rattle.mspec_meaning.specs.Stream.{Ending, Stream}
 use Rattle.wire_frames.specs.declared.raw.RawWire.{RawWire}
@@ -16,6 +17,7 @@ use Rattle.script_replay.specs.declared.replays.ScriptEnd.{ScriptEnd}
 use Rattle.script_replay.specs.declared.replays.ScriptEnd.TheVariants.{Answered}
 use Rattle.plchost.specs.FirstForm.{FirstForm}
 use Rattle.plchost.specs.Lines.{AreWholeLines, lines_of}
+use Rattle.plchost.specs.Statuses.{number_of}
 use Rattle.plchost.specs.Tool.{AreDecode, AreReplay, IsFront, Names, Said, Taken, Tool, entries_said, input_limit, last_said, listings}
 
 -- How the input was left, by its two counts and the bytes that were taken.
@@ -30,11 +32,14 @@ LeftSo None before after taken =
     (after.ends ≡ before.ends) × (after.faults ≡ before.faults) × (length taken ≤ input_limit)
 
 -- What was taken of the file of this name: nothing, and its count rose, or its bytes as the shelf tells them, and no count
--- changed. A run that ran out of memory may not have asked for them.
+-- changed. Where the shelf tells that there is no such file it is nothing. A run that ran out of memory may not have read all of
+-- these bytes.
 abbrev pub FileSeen : (name : List ℕ) → (before after : ShelfSeen) → Option (List ℕ) → Type 0
 FileSeen name before after None = Rose (before.faults name) (after.faults name)
 FileSeen name before after (Some text) =
-    ((other : List ℕ) → after.faults other ≡ before.faults other) × IfSome (before.file name) (λ bytes. text ≡ bytes)
+    ((other : List ℕ) → after.faults other ≡ before.faults other)
+    × IfSome (before.file name) (λ bytes. text ≡ bytes)
+    × (IsTrue (before.lacks name) → ⊥)
 
 -- These bytes were added to what goes out: some have gone, and the rest is gathered behind them.
 abbrev pub Adds : (held held' : Option (List ℕ)) → (gathered gathered' added : List ℕ) → Type 0
@@ -48,16 +53,16 @@ PutsFront held held' bytes = (front rest : List ℕ) × (front ++ rest ≡ bytes
 -- the shelf counts this name together with the file that the words name
 abbrev pub IsCountedWithFile : (counts_with : List ℕ → List ℕ → Type 0) → (words : List (List ℕ)) → (other : List ℕ) → Type 0
 IsCountedWithFile counts_with words other =
-    (name kind : List ℕ) × AreDecode words name kind × counts_with name other
+    (file_name type_name : List ℕ) × AreDecode words file_name type_name × counts_with file_name other
 
 -- the words are `decode` with a file that the shelf tells there isn't
 abbrev pub LacksFile : (words : List (List ℕ)) → ShelfSeen → Type 0
-LacksFile words files = (name kind : List ℕ) × AreDecode words name kind × IsTrue (files.lacks name)
+LacksFile words files = (file_name type_name : List ℕ) × AreDecode words file_name type_name × IsTrue (files.lacks file_name)
 
 -- What was taken of the shelf: the file that the words name, if they do. No count has changed but those of names that the shelf
 -- counts together with it.
 pub record FileTaken (words : List (List ℕ)) (counts_with : List ℕ → List ℕ → Type 0) (before after : ShelfSeen) (file : Option (List ℕ)) : Type 0 where
-  pub named : (name kind : List ℕ) → AreDecode words name kind → FileSeen name before after file
+  pub named : (file_name type_name : List ℕ) → AreDecode words file_name type_name → FileSeen file_name before after file
   pub others : (other : List ℕ) → (IsCountedWithFile counts_with words other → ⊥) → after.faults other ≡ before.faults other
 
 -- What was taken from the input, the next bytes that it had, and how it was left: at its end, if it ended.
@@ -83,13 +88,13 @@ shown files input out = record { files = files; input = input; out = out }
 
 -- A run by these words, with this shown before it and after it, came to this status or was cut off, with this gathered before it
 -- and after it.
-pub record RunsTo (words : List (List ℕ)) (counts_with : List ℕ → List ℕ → Type 0) (before after : Shown) (gathered gathered' : List ℕ) (ran : Result ℕ Cut) : Type 0 where
+pub record RunsTo (words : List (List ℕ)) (counts_with : List ℕ → List ℕ → Type 0) (before after : Shown) (gathered gathered' : List ℕ) (ran : Result Status Cut) : Type 0 where
   -- The tool's text was added, and the status is the tool's.
   pub said : IfOk ran (λ status. (t : Taken) × (outcome : Said)
       × Took words counts_with before.files after.files before.input after.input t
       × Tool words t outcome
       × Adds before.out.held after.out.held gathered gathered' outcome.text
-      × (status ≡ outcome.status))
+      × (number_of status ≡ outcome.status))
   -- Where memory ran out a front of it was added, of whole lines.
   pub no_memory : ran ≡ Err NoMemory → (t : Taken) × (front : List ℕ)
       × Took words counts_with before.files after.files before.input after.input t
@@ -108,8 +113,8 @@ pub record RunsTo (words : List (List ℕ)) (counts_with : List ℕ → List ℕ
   pub files : LeavesFiles before.files after.files
 
 -- the last line and the status of a run that came to this
-abbrev pub last_of : Result ℕ Cut → Said
-last_of (Ok status) = record { text = []; status = status }
+abbrev pub last_of : Result Status Cut → Said
+last_of (Ok status) = record { text = []; status = number_of status }
 last_of (Err NoMemory) = record { text = codes "no memory\n"; status = 8 }
 last_of (Err WriteFault) = record { text = []; status = 5 }
 
@@ -141,11 +146,11 @@ pub record IsRun (words : List (List ℕ)) (counts_with : List ℕ → List ℕ 
 -- The words name a file that was read, a description in it, and a type of it, so that the input is to be read.
 abbrev pub IsReady : (words : List (List ℕ)) → (counts_with : List ℕ → List ℕ → Type 0) → (before after : ShelfSeen) → (d : Description) → (def : ℕ) → Type 0
 IsReady words counts_with before after d def =
-    (name kind text : List ℕ)
-    × AreDecode words name kind
+    (file_name type_name text : List ℕ)
+    × AreDecode words file_name type_name
     × FileTaken words counts_with before after (Some text)
     × FirstForm text d
-    × Names d def kind
+    × Names d def type_name
 
 -- The words lead to values, and the input ended. Its bytes are these values, up to this ending.
 pub record WasDecoded (words : List (List ℕ)) (counts_with : List ℕ → List ℕ → Type 0) (before after : Shown) (ending : Ending) : Type 0 where

@@ -32,30 +32,30 @@ pub record InputTold (input : SourceSeen) (bytes : List ℕ) (how : Option How) 
 -- What a run takes where no call fails, as its streams tell it before the run: the file that its words name, if they name one,
 -- and nothing of the input, or the input.
 pub record IsTold (words : List (List ℕ)) (files : ShelfSeen) (input : SourceSeen) (t : Taken) : Type 0 where
-  pub from_file : (name kind : List ℕ) → AreDecode words name kind → (text : List ℕ) × (files.file name ≡ Some text) × (t.file ≡ Some text)
+  pub from_file : (file_name type_name : List ℕ) → AreDecode words file_name type_name → (text : List ℕ) × (files.file file_name ≡ Some text) × (t.file ≡ Some text)
   pub from_input : ((t.how ≡ None) × (t.bytes ≡ [])) ⊎ InputTold input t.bytes t.how
 
 -- No call failed: the counts of faults of the file that the words name, of the input and of the output didn't rise by one, which
 -- is all that they rise by in a run. Of a count at its top, which stands still, this says nothing.
 pub record NoneFailed (words : List (List ℕ)) (before after : Shown) : Type 0 where
-  pub file : (name kind : List ℕ) → AreDecode words name kind → Rose (before.files.faults name) (after.files.faults name) → ⊥
+  pub file : (file_name type_name : List ℕ) → AreDecode words file_name type_name → Rose (before.files.faults file_name) (after.files.faults file_name) → ⊥
   pub input : Rose before.input.faults after.input.faults → ⊥
   pub out : Rose before.out.faults after.out.faults → ⊥
 
 -- The words lead to values, as the streams tell it: the file is in the first form and has the type, and the input has only whole
 -- values of it, within the limit.
 pub record TellsValues (words : List (List ℕ)) (files : ShelfSeen) (input : SourceSeen) : Type 0 where
-  pub name : List ℕ
-  pub kind : List ℕ
+  pub file_name : List ℕ
+  pub type_name : List ℕ
   pub text : List ℕ
   pub d : Description
   pub def : ℕ
   pub tape : Tape
   pub readings : List Reading
-  pub are_decode : AreDecode words name kind
-  pub file : files.file name ≡ Some text
+  pub are_decode : AreDecode words file_name type_name
+  pub file : files.file file_name ≡ Some text
   pub form : FirstForm text d
-  pub names : Names d def kind
+  pub names : Names d def type_name
   pub source : input.tape ≡ Some tape
   pub within : length tape.left ≤ input_limit
   pub values : Stream d def [] tape.left readings End

@@ -26,10 +26,10 @@ IsPositional [] = ⊥
 IsPositional (b ∷ bs) = b ≢ 45
 
 -- the words are `decode FILE TYPE`, with the name of a file and that of a type
-pub record AreDecode (words : List (List ℕ)) (name kind : List ℕ) : Type 0 where
-  pub spelled : words ≡ codes "decode" ∷ name ∷ kind ∷ []
-  pub name_word : IsPositional name
-  pub kind_word : IsPositional kind
+pub record AreDecode (words : List (List ℕ)) (file_name type_name : List ℕ) : Type 0 where
+  pub spelled : words ≡ codes "decode" ∷ file_name ∷ type_name ∷ []
+  pub file_word : IsPositional file_name
+  pub type_word : IsPositional type_name
 
 -- the words are `replay`
 abbrev pub AreReplay : List (List ℕ) → Type 0
@@ -37,7 +37,7 @@ AreReplay words = words ≡ codes "replay" ∷ []
 
 -- the words are no command's
 abbrev pub AreRefused : List (List ℕ) → Type 0
-AreRefused words = ((name kind : List ℕ) → AreDecode words name kind → ⊥) × (AreReplay words → ⊥)
+AreRefused words = ((file_name type_name : List ℕ) → AreDecode words file_name type_name → ⊥) × (AreReplay words → ⊥)
 
 -- ---- the run
 
@@ -69,22 +69,22 @@ pub data Course : Type 0 where
 -- By these words, and what it took, a run comes to this.
 abbrev pub ComesTo : (words : List (List ℕ)) → Taken → Course → Type 0
 ComesTo words t WordsRefused = AreRefused words
-ComesTo words t FileFault = (name kind : List ℕ) × AreDecode words name kind × (t.file ≡ None)
+ComesTo words t FileFault = (file_name type_name : List ℕ) × AreDecode words file_name type_name × (t.file ≡ None)
 ComesTo words t NotBuilt =
-    (name kind text : List ℕ) × AreDecode words name kind × (t.file ≡ Some text) × ((d : Description) → FirstForm text d → ⊥)
+    (file_name type_name text : List ℕ) × AreDecode words file_name type_name × (t.file ≡ Some text) × ((d : Description) → FirstForm text d → ⊥)
 ComesTo words t TypeRefused =
-    (name kind text : List ℕ)
+    (file_name type_name text : List ℕ)
     × (d : Description)
-    × AreDecode words name kind
+    × AreDecode words file_name type_name
     × (t.file ≡ Some text)
     × FirstForm text d
-    × ((def : ℕ) → Names d def kind → ⊥)
+    × ((def : ℕ) → Names d def type_name → ⊥)
 ComesTo words t (Values d def readings ending) =
-    (name kind text : List ℕ)
-    × AreDecode words name kind
+    (file_name type_name text : List ℕ)
+    × AreDecode words file_name type_name
     × (t.file ≡ Some text)
     × FirstForm text d
-    × Names d def kind
+    × Names d def type_name
     × Stream d def [] (take input_limit t.bytes) readings ending
 ComesTo words t (Answers text end) = AreReplay words × Script (lines_of t.how (take input_limit t.bytes)) text end
 
@@ -113,15 +113,15 @@ last_said (Some Ended) (TooFew left) = record { text = codes "truncated " ++ dec
 last_said None End = record { text = []; status = 0 }
 last_said None (TooFew left) = record { text = codes "truncated " ++ decimal left ++ codes "\n"; status = 7 }
 
-abbrev pub line_refused : ℕ → Said
-line_refused n = record { text = codes "line refused " ++ decimal n ++ codes "\n"; status = 10 }
+abbrev pub refusal_of_line : ℕ → Said
+refusal_of_line n = record { text = codes "line refused " ++ decimal n ++ codes "\n"; status = 10 }
 
 abbrev pub entries_said : ℕ → Said
 entries_said entries = record { text = codes "entries " ++ decimal entries ++ codes "\n"; status = 0 }
 
 -- a script's first two lines must stand; after them it may end at any line
 abbrev pub script_said : (next entries : ℕ) → Said
-script_said next entries = if must_stand next then line_refused next else entries_said entries
+script_said next entries = if must_stand next then refusal_of_line next else entries_said entries
 
 -- the line that is refused, where a script's lines end so in an input that was left so: one that isn't in the form, or one
 -- that must stand and is missing at the input's end
@@ -133,7 +133,7 @@ refused_line Over (Answered next entries) = None
 
 -- the last line and the status of a script whose lines end so, in an input that was left so
 abbrev pub script_last : Option How → ScriptEnd → Said
-script_last how (LineRefused n) = line_refused n
+script_last how (LineRefused n) = refusal_of_line n
 script_last (Some Failed) (Answered next entries) = record { text = codes "read fault\n"; status = 4 }
 script_last (Some Over) (Answered next entries) = record { text = codes "input too long\n"; status = 13 }
 script_last (Some Ended) (Answered next entries) = script_said next entries

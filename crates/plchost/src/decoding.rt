@@ -1,12 +1,14 @@
-ghost use Rattle.std.specs.Prelude.{◌≡◌, ◌⊎◌, ℕ, IfOk};
+ghost use Rattle.std.specs.Prelude.{◌≡◌, ◌⊎◌, ℕ, Ok, Err, IfOk};
 ghost use Rattle.mspec_tree.specs.declared.defs.Description.{Description};
 ghost use Rattle.plchost.specs.Tool.{AreReplay};
 ghost use Rattle.plchost.specs.Runs.{IsReady, LacksFile, RunsTo, StopsEarly, shown};
+ghost use Rattle.plchost.specs.Statuses.{number_of};
 
 use crate::closing::{close, say};
 use crate::faults::Cut;
 use crate::inputs::{INPUT_LIMIT, read_input};
 use crate::preparing::prepare;
+use crate::statuses::Status;
 use crate::values::put_values;
 use link_io::{Shelf, Sink, Source, StringList};
 use std::alloc::Global;
@@ -20,15 +22,16 @@ pub fn decode<F: Shelf, S: Source, K: Sink>(
     input: &mut S,
     out: &mut K,
     gathered: &mut Vec<u8>,
-) -> Result<u8, Cut>
+) -> Result<Status, Cut>
     requires { AreReplay words.now → ⊥ }
     ensures run { RunsTo words.now F.counts_with
         (shown (F.seen files.old) (S.seen input.old) (K.seen out.old))
         (shown (F.seen files.new) (S.seen input.new) (K.seen out.new)) gathered.old.items gathered.new.items result }
-    ensures lacking { LacksFile words.now (F.seen files.old) → IfOk result (λ status. status ≡ 3) }
+    ensures lacking { LacksFile words.now (F.seen files.old)
+        → (input.new ≡ input.old) × ((result ≡ Ok Status.FileFault) ⊎ (result ≡ Err Cut.NoMemory)) }
     ensures touched { (input.new ≡ input.old) ⊎ ((d : Description) × (def : ℕ)
         × IsReady words.now F.counts_with (F.seen files.old) (F.seen files.new) d def) }
-    ensures untouched { IfOk result (λ status. StopsEarly status → input.new ≡ input.old) }
+    ensures untouched { IfOk result (λ status. StopsEarly (number_of status) → input.new ≡ input.old) }
 {
     let ready = match prepare(alloc, words, files) {
         Ok(ready) => ready,

@@ -2,7 +2,7 @@ ghost use Rattle.std.specs.Prelude.{◌≡◌};
 ghost use Rattle.plchost.specs.declared.faults.Cut.TheVariants.{NoMemory};
 
 use link_io::Failed;
-use std::alloc::{AllocError, AllocFailed};
+use std::alloc::AllocError;
 
 /// Why a run was cut off: its output failed, or memory ran out.
 #[derive(Clone, Copy, Debug, PartialEq, Eq)]
@@ -11,18 +11,23 @@ pub enum Cut {
     NoMemory,
 }
 
+impl From<Cut> for u8 {
+    ghost use Rattle.plchost.specs.Statuses.{cut_number};
+
+    ghost from_gives = { λ cut number. number ≡ cut_number cut };
+
+    fn from(cut: Cut) -> u8 {
+        match cut {
+            Cut::WriteFault => 5,
+            Cut::NoMemory => 8,
+        }
+    }
+}
+
 impl From<AllocError> for Cut {
     ghost from_gives = { λ _ e. e ≡ NoMemory };
 
     fn from(_error: AllocError) -> Cut {
-        Cut::NoMemory
-    }
-}
-
-impl<T: Drop> From<AllocFailed<T>> for Cut {
-    ghost from_gives = { λ _ e. e ≡ NoMemory };
-
-    fn from(_error: AllocFailed<T>) -> Cut {
         Cut::NoMemory
     }
 }

@@ -1,14 +1,12 @@
-ghost use Rattle.std.specs.Prelude.{◌≡◌, ◌+◌, ◌⊎◌, ◌<◌, ℕ, List, take, length, IfOk, IfSome, IsErr, IsTrue};
+ghost use Rattle.std.specs.Prelude.{◌≡◌, ◌+◌, ◌⊎◌, ◌<◌, ℕ, List, take, length, Err, IfOk, IfSome, IsTrue};
 ghost use Rattle.link_io.specs.Counts.{Rose};
 ghost use Rattle.link_io.specs.Streams.{LeavesFiles};
 ghost use Rattle.plchost.specs.declared.files.FileFault.TheVariants.{NoMemory};
 
+use crate::inputs::PIECE;
 use crate::plain_types::MAX_BYTES;
 use link_io::{Failed, Shelf};
 use std::alloc::{AllocError, Global};
-
-/// How many bytes are asked for at a time.
-const PIECE: usize = 65_536;
 
 /// Why a file wasn't read.
 #[derive(Clone, Copy, Debug, PartialEq, Eq)]
@@ -39,7 +37,7 @@ impl From<Failed> for FileFault {
 pub fn read_file<F: Shelf>(alloc: Global, files: &mut F, name: &str) -> Result<Vec<u8>, FileFault>
     ensures text { IfOk result (λ text. IfSome ((F.seen files.old).file name.now) (λ bytes.
         text.items ≡ take (1 + MAX_BYTES) bytes)) }
-    ensures lacking { IsTrue ((F.seen files.old).lacks name.now) → IsErr result }
+    ensures lacking { IsTrue ((F.seen files.old).lacks name.now) → result ≡ Err FileFault.Failed }
     ensures files { LeavesFiles (F.seen files.old) (F.seen files.new) }
     ensures no_fault { result ≡ Err FileFault.Failed ⊎ ((other : List ℕ) → (F.seen files.new).faults other ≡ (F.seen files.old).faults other) }
     ensures others { (other : List ℕ) → (F.counts_with name.now other → ⊥) → (F.seen files.new).faults other ≡ (F.seen files.old).faults other }

@@ -9,8 +9,8 @@ use std::alloc::{AllocError, Global};
 /// How many bytes of an input are taken into account.
 pub const INPUT_LIMIT: usize = 16_777_216;
 
-/// How many bytes are asked for at a time.
-const PIECE: usize = 65_536;
+/// How many bytes of an input or a file are asked for at a time.
+pub const PIECE: usize = 65_536;
 
 /// How an input was left: it ended, it failed, or it had more bytes than the limit.
 #[derive(Clone, Copy, Debug, PartialEq, Eq)]

@@ -1,4 +1,4 @@
-//! Reads a description in the first form: one type, whose fields are unsigned numbers of whole bytes.
+//! Reads a description in the first form: one type, whose fields are unsigned numbers of 8, 16, 32 or 64 bits.
 
 ghost use Rattle.std.specs.Prelude.{◌≡◌, List, ℕ, map, IfOk};
 ghost use Rattle.std.specs.List.{list_any};
@@ -8,7 +8,7 @@ ghost use Rattle.plchost.specs.FormReaders.{Gives, AreAllFields, seen, seen_type
 ghost use Rattle.plchost.specs.declared.plain_types.FormFault.TheVariants.{NoMemory};
 ghost use Rattle.mspec_tree.specs.declared.defs.Description.{Description};
 
-use crate::tokens::{Width, behind_blanks, keyword, name, number, symbol};
+use crate::tokens::{Width, behind_blanks, bit_width, keyword, name, symbol};
 use mspec_tree::{Body, Def, DefBody, Description, Field, FieldList, Place, Ref, Simple};
 use sqlite_items::Items;
 use std::alloc::{AllocError, AllocFailed, Global};
@@ -71,7 +71,7 @@ fn field(text: &[u8]) -> Option<(ReadField<'_>, &[u8])>
     let rest = symbol(b'[', text)?;
     let rest = keyword(b"simple", rest)?;
     let rest = keyword(b"uint", rest)?;
-    let (width, rest) = number(rest)?;
+    let (width, rest) = bit_width(rest)?;
     let (name, rest) = name(rest)?;
     let rest = symbol(b']', rest)?;
     Some((ReadField { name, width }, rest))

@@ -46,10 +46,7 @@ fn def_named(d: &Description, name: &[u8]) -> Option<u16>
         ((def : ℕ) → Names d.now def name.now → ⊥)
         (λ def. Names d.now def name.now) }
 {
-    match place_of(d.defs.as_slice(), name) {
-        Some(place) => Some(place as u16),
-        None => None,
-    }
+    place_of(d.defs.as_slice(), name).map(|place| place as u16)
 }
 
 /// Reads the file that the words name and finds their type in it.
@@ -62,7 +59,7 @@ pub fn prepare<F: Shelf>(
     ensures ready { IfOk result (λ ready.
         IsReady words.now F.counts_with (F.seen files.old) (F.seen files.new) ready.description ready.def) }
     ensures files { LeavesFiles (F.seen files.old) (F.seen files.new) }
-    ensures lacking { LacksFile words.now (F.seen files.old) → (result ≡ Err Refusal.FileFault) ⊎ (result ≡ Err Refusal.NoMemory) }
+    ensures lacking { LacksFile words.now (F.seen files.old) → result ≡ Err Refusal.FileFault }
     ensures refused { IfErr result (λ refusal. (file : Option (List ℕ))
         × FileTaken words.now F.counts_with (F.seen files.old) (F.seen files.new) file
         × ComesToRefusal words.now file refusal) }
@@ -70,9 +67,9 @@ pub fn prepare<F: Shelf>(
     let Some(found) = decode_words(words) else {
         return Err(Refusal::WordsRefused);
     };
-    let text = read_file(alloc, files, found.file)?;
+    let text = read_file(alloc, files, found.file_name)?;
     let description = first_form(alloc, &text)?;
-    match def_named(&description, found.kind) {
+    match def_named(&description, found.type_name) {
         Some(def) => Ok(Prepared { description, def }),
         None => Err(Refusal::TypeRefused),
     }

@@ -4,6 +4,7 @@ ghost use Rattle.script_replay.specs.Replays.{Script};
 ghost use Rattle.script_replay.specs.declared.replays.ScriptEnd.{ScriptEnd};
 ghost use Rattle.plchost.specs.declared.inputs.How.{How};
 ghost use Rattle.plchost.specs.Lines.{AreWholeLines, lines_of};
+ghost use Rattle.plchost.specs.Statuses.{number_of};
 ghost use Rattle.plchost.specs.Tool.{input_limit, script_last};
 ghost use Rattle.plchost.specs.Runs.{Adds, PutsFront, InputTaken, IsScriptFront};
 
@@ -11,6 +12,7 @@ use crate::closing::close_script;
 use crate::faults::Cut;
 use crate::inputs::{INPUT_LIMIT, read_input};
 use crate::replies::put_answers;
+use crate::statuses::Status;
 use link_io::{Sink, Source};
 use std::alloc::Global;
 
@@ -21,12 +23,12 @@ pub fn replay<S: Source, K: Sink>(
     input: &mut S,
     out: &mut K,
     gathered: &mut Vec<u8>,
-) -> Result<u8, Cut>
+) -> Result<Status, Cut>
     ensures said { IfOk result (λ status. (taken : List ℕ) × (how : How) × (text : List ℕ) × (end : ScriptEnd)
         × InputTaken (S.seen input.old) (S.seen input.new) taken (Some how)
         × Script (lines_of (Some how) (take input_limit taken)) text end
         × Adds (K.seen out.old).held (K.seen out.new).held gathered.old.items gathered.new.items (text ++ (script_last (Some how) end).text)
-        × (status ≡ (script_last (Some how) end).status)) }
+        × (number_of status ≡ (script_last (Some how) end).status)) }
     ensures no_fault { result ≡ Err Cut.WriteFault ⊎ ((K.seen out.new).faults ≡ (K.seen out.old).faults) }
     ensures no_memory { result ≡ Err Cut.NoMemory → (taken : List ℕ) × (how : Option How) × (front : List ℕ)
         × InputTaken (S.seen input.old) (S.seen input.new) taken how

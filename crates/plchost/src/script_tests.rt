@@ -26,97 +26,115 @@ fn opened(alloc: Global, references: &[u8], lines: &[u8]) -> Result<Vec<u8>, All
     Ok(script)
 }
 
+/// How many references a table has and the lines behind a script's first two, with the answers behind the first.
+const ANSWERED: [(&[u8], &[u8], &[u8]); 9] = [
+    (
+        b"2",
+        b"submit 1 1 0 1000 AA\nsend\ncancel 1 1\nsubmit 1 1 0 1000 AA\nsend\nframe 00050001BB\ncollect 1 1\nsubmit 1 1 0 1000 AA\n",
+        b"started 1 1\nsent 1 00050001aa\ncancelled\nstarted 2 2\nsent 2 00050002aa\nlate 1\ncancelled\nstarted 3 1\nentries 9\n",
+    ),
+    (
+        b"2",
+        b"submit 1 1 0 1000 AA\nsend\nframe 00050001BB\ncancel 1 1\ncollect 1 1\n",
+        b"started 1 1\nsent 1 00050001aa\nended 1 done\nended done\ndone 187\nentries 5\n",
+    ),
+    (
+        b"1",
+        b"submit 1 1 0 1000 AA\nsend\ncancel 1 1\nsubmit 1 1 0 1000 AA\nframe 00050001BB\nsubmit 1 1 0 1000 AA\n",
+        b"started 1 1\nsent 1 00050001aa\ncancelled\nno reference\nlate 1\nstarted 2 1\nentries 6\n",
+    ),
+    (
+        b"1",
+        b"submit 1 1 0 1000 AA\ncancel 1 1\nsubmit 1 1 0 1000 AA\nsend\n",
+        b"started 1 1\ncancelled\nstarted 2 1\nsent 2 00050001aa\nentries 5\n",
+    ),
+    (
+        b"2",
+        b"submit 1 1 0 1000 AA\nframe 00050001BB\nsend\nframe 00050001BB",
+        b"started 1 1\nstray 1\nsent 1 00050001aa\nended 1 done\nentries 5\n",
+    ),
+    (
+        b"2",
+        b"submit 1 1 0 1000 AA\ncollect 1 1\nsend\nframe 00040001\ncollect 1 1\n",
+        b"started 1 1\npending\nsent 1 00050001aa\nended 1 mismatch 1 0\nmismatch 1 0\nentries 5\n",
+    ),
+    (
+        b"0002",
+        b"submit 1 1 0 1000 AA\nsend\nframe 00060001Ff07\ncollect 1 1\ncollect 1 1",
+        b"started 1 1\nsent 1 00050001aa\nended 1 remote 7\nremote 7\nno request\nentries 5\n",
+    ),
+    (
+        b"65535",
+        b"submit 1 1 0 1000 AA\nsubmit 1 2 0 1000 AA\nsend\nframe 00070001010a00\ncollect 1 1\n",
+        b"started 1 1\nno lease\nsent 1 00050001aa\nended 1 done\ndone 1,10,0\nentries 5\n",
+    ),
+    (
+        b"2",
+        b"submit 1 2 0 1000 AA\ncollect 1 1\nsend\n",
+        b"no lease\nno request\nnothing\nentries 1\n",
+    ),
+];
+
 #[test]
 fn scripts_are_answered_by_the_table(rt: HostRuntime) -> Result<(), Fail> {
-    let cases: [(&[u8], &[u8], &[u8]); 9] = [
-        (
-            b"2",
-            b"submit 1 1 0 1000 AA\nsend\ncancel 1 1\nsubmit 1 1 0 1000 AA\nsend\nframe 00050001BB\ncollect 1 1\nsubmit 1 1 0 1000 AA\n",
-            b"started 1 1\nsent 1 00050001aa\ncancelled\nstarted 2 2\nsent 2 00050002aa\nlate 1\ncancelled\nstarted 3 1\nentries 9\n",
-        ),
-        (
-            b"2",
-            b"submit 1 1 0 1000 AA\nsend\nframe 00050001BB\ncancel 1 1\ncollect 1 1\n",
-            b"started 1 1\nsent 1 00050001aa\nended 1 done\nended done\ndone 187\nentries 5\n",
-        ),
-        (
-            b"1",
-            b"submit 1 1 0 1000 AA\nsend\ncancel 1 1\nsubmit 1 1 0 1000 AA\nframe 00050001BB\nsubmit 1 1 0 1000 AA\n",
-            b"started 1 1\nsent 1 00050001aa\ncancelled\nno reference\nlate 1\nstarted 2 1\nentries 6\n",
-        ),
-        (
-            b"1",
-            b"submit 1 1 0 1000 AA\ncancel 1 1\nsubmit 1 1 0 1000 AA\nsend\n",
-            b"started 1 1\ncancelled\nstarted 2 1\nsent 2 00050001aa\nentries 5\n",
-        ),
-        (
-            b"2",
-            b"submit 1 1 0 1000 AA\nframe 00050001BB\nsend\nframe 00050001BB",
-            b"started 1 1\nstray 1\nsent 1 00050001aa\nended 1 done\nentries 5\n",
-        ),
-        (
-            b"2",
-            b"submit 1 1 0 1000 AA\ncollect 1 1\nsend\nframe 00040001\ncollect 1 1\nsend\n",
-            b"started 1 1\npending\nsent 1 00050001aa\nended 1 mismatch 1 0\nmismatch 1 0\nnothing\nentries 5\n",
-        ),
-        (
-            b"0002",
-            b"submit 1 1 0 1000 AA\nsend\nframe 00060001Ff07\ncollect 1 1\ncollect 1 1",
-            b"started 1 1\nsent 1 00050001aa\nended 1 remote 7\nremote 7\nno request\nentries 5\n",
-        ),
-        (
-            b"65535",
-            b"submit 1 1 0 1000 AA\nsubmit 1 2 0 1000 AA\nsend\nframe 00070001010a00\ncollect 1 1\n",
-            b"started 1 1\nno lease\nsent 1 00050001aa\nended 1 done\ndone 1,10,0\nentries 5\n",
-        ),
-        (
-            b"2",
-            b"submit 1 2 0 1000 AA\ncollect 1 1\nsend\n",
-            b"no lease\nno request\nnothing\nentries 1\n",
-        ),
-    ];
-    for (references, lines, answers) in cases {
+    for (references, lines, answers) in ANSWERED {
         let script = opened(rt.alloc(), references, lines)?;
         let mut want = Vec::from_slice(rt.alloc(), b"granted 1\n")?;
         want.extend_from_slice(answers)?;
-        for piece in 1usize..4 {
-            let ran = replay(rt.alloc(), &script, NONE_FAILS, piece)?;
-            assert_eq!(rt; ran.text.as_slice(), want.as_slice());
-            assert_eq!(rt; ran.status, 0);
-        }
+        let ran = replay(rt.alloc(), &script, NONE_FAILS, 100)?;
+        assert_eq!(rt; ran.text.as_slice(), want.as_slice());
+        assert_eq!(rt; ran.status, 0);
     }
     Ok(())
 }
 
 #[test]
+fn small_pieces_of_a_script_change_nothing(rt: HostRuntime) -> Result<(), Fail> {
+    let script = opened(
+        rt.alloc(),
+        b"2",
+        b"submit 1 1 0 1000 AA\nsend\ncollect 1 1\n",
+    )?;
+    for piece in 1usize..8 {
+        let ran = replay(rt.alloc(), &script, NONE_FAILS, piece)?;
+        let want: &[u8] = b"granted 1\nstarted 1 1\nsent 1 00050001aa\npending\nentries 3\n";
+        assert_eq!(rt; ran.text.as_slice(), want, "pieces of {piece}");
+        assert_eq!(rt; ran.status, 0);
+    }
+    Ok(())
+}
+
+/// Scripts with a line outside the first form, and what is said of each.
+const REFUSED: [(&[u8], &[u8]); 9] = [
+    (b"", b"line refused 1\n"),
+    (b"\n", b"line refused 1\n"),
+    (b"ask 1 0\n", b"line refused 1\n"),
+    (b"table 2 8 1 64 60000 60000\n", b"line refused 2\n"),
+    (
+        b"table 2 8 1 64 60000 60000\nasks 1 0\n",
+        b"line refused 2\n",
+    ),
+    (
+        b"table 2 8 1 64 60000 60000\nask 1 0\n\n",
+        b"granted 1\nline refused 3\n",
+    ),
+    (
+        b"table 2 8 1 64 60000 60000\nask 1 0\nsend\nsen",
+        b"granted 1\nnothing\nline refused 4\n",
+    ),
+    (
+        b"table 2 8 1 64 60000 60000\nask 1 0\nframe 0006000101\nsend\n",
+        b"granted 1\nline refused 3\n",
+    ),
+    (
+        b"table 2 8 1 64 60000 60000\nask 1 0\nsubmit 1 1 0 1000 A\nsend\n",
+        b"granted 1\nline refused 3\n",
+    ),
+];
+
+#[test]
 fn the_first_line_outside_the_form_is_refused(rt: HostRuntime) -> Result<(), Fail> {
-    let cases: [(&[u8], &[u8]); 9] = [
-        (b"", b"line refused 1\n"),
-        (b"\n", b"line refused 1\n"),
-        (b"ask 1 0\n", b"line refused 1\n"),
-        (b"table 2 8 1 64 60000 60000\n", b"line refused 2\n"),
-        (
-            b"table 2 8 1 64 60000 60000\nasks 1 0\n",
-            b"line refused 2\n",
-        ),
-        (
-            b"table 2 8 1 64 60000 60000\nask 1 0\n\n",
-            b"granted 1\nline refused 3\n",
-        ),
-        (
-            b"table 2 8 1 64 60000 60000\nask 1 0\nsend\nsen",
-            b"granted 1\nnothing\nline refused 4\n",
-        ),
-        (
-            b"table 2 8 1 64 60000 60000\nask 1 0\nframe 0006000101\nsend\n",
-            b"granted 1\nline refused 3\n",
-        ),
-        (
-            b"table 2 8 1 64 60000 60000\nask 1 0\nsubmit 1 1 0 1000 A\nsend\n",
-            b"granted 1\nline refused 3\n",
-        ),
-    ];
-    for (script, want) in cases {
+    for (script, want) in REFUSED {
         let ran = replay(rt.alloc(), script, NONE_FAILS, 100)?;
         assert_eq!(rt; ran.text.as_slice(), want);
         assert_eq!(rt; ran.status, 10);
@@ -147,22 +165,37 @@ fn a_script_has_at_most_63_lines(rt: HostRuntime) -> Result<(), Fail> {
 }
 
 #[test]
-fn a_payload_that_is_too_long_is_not_admitted(rt: HostRuntime) -> Result<(), Fail> {
-    for (bytes, answer) in [
-        (4092, "started 1 1\nentries 2\n"),
-        (4093, "not admitted\nentries 1\n"),
+fn an_input_past_the_limit_is_too_long(rt: HostRuntime) -> Result<(), Fail> {
+    for (bytes, want, status) in [
+        (16_777_216, "line refused 1\n", 10),
+        (16_777_217, "input too long\n", 13),
     ] {
-        let mut script = Vec::from_slice(
-            rt.alloc(),
-            b"table 2 8 1 64 60000 60000\nask 1 0\nsubmit 1 1 0 1000 ",
-        )?;
-        for _ in 0..bytes {
-            script.extend_from_slice(b"0a")?;
-        }
+        let script = vec![in rt.alloc(); b'0'; bytes]?;
+        let ran = replay(rt.alloc(), &script, NONE_FAILS, 100_000)?;
+        assert_eq!(rt; ran.text.as_slice(), want.as_bytes());
+        assert_eq!(rt; ran.status, status);
+    }
+    Ok(())
+}
+
+/// A script that submits a payload of so many bytes.
+fn submitting(alloc: Global, bytes: u32) -> Result<Vec<u8>, AllocError> {
+    let mut script = opened(alloc, b"2", b"submit 1 1 0 1000 ")?;
+    for _ in 0..bytes {
+        script.extend_from_slice(b"0a")?;
+    }
+    Ok(script)
+}
+
+#[test]
+fn a_payload_that_is_too_long_is_not_admitted(rt: HostRuntime) -> Result<(), Fail> {
+    for (bytes, want) in [
+        (4092, "granted 1\nstarted 1 1\nentries 2\n"),
+        (4093, "granted 1\nnot admitted\nentries 1\n"),
+    ] {
+        let script = submitting(rt.alloc(), bytes)?;
         let ran = replay(rt.alloc(), &script, NONE_FAILS, 1000)?;
-        let mut want = Vec::from_slice(rt.alloc(), b"granted 1\n")?;
-        want.extend_from_slice(answer.as_bytes())?;
-        assert_eq!(rt; ran.text.as_slice(), want.as_slice());
+        assert_eq!(rt; ran.text.as_slice(), want.as_bytes());
         assert_eq!(rt; ran.status, 0);
     }
     Ok(())
@@ -175,16 +208,14 @@ fn replay_failing(alloc: Global, failing: Failing<'_>) -> Result<Ran, AllocError
 }
 
 #[test]
-fn a_fault_at_each_call_of_a_script_has_its_status(rt: HostRuntime) -> Result<(), Fail> {
+fn a_fault_at_each_read_of_a_script_ends_its_lines(rt: HostRuntime) -> Result<(), Fail> {
     // 39 bytes and the end, each a read; the second line ends at byte 35
     for at in 1u64..=40 {
-        let ran = replay_failing(
-            rt.alloc(),
-            Failing {
-                reads: &[at],
-                ..NONE_FAILS
-            },
-        )?;
+        let failing = Failing {
+            reads: &[at],
+            ..NONE_FAILS
+        };
+        let ran = replay_failing(rt.alloc(), failing)?;
         let want: &[u8] = if at <= 35 {
             b"read fault\n"
         } else {
@@ -193,16 +224,19 @@ fn a_fault_at_each_call_of_a_script_has_its_status(rt: HostRuntime) -> Result<()
         assert_eq!(rt; ran.text.as_slice(), want, "read {at}");
         assert_eq!(rt; ran.status, 4);
     }
+    Ok(())
+}
+
+#[test]
+fn a_fault_at_each_write_of_a_script_leaves_a_front(rt: HostRuntime) -> Result<(), Fail> {
     let whole: &[u8] = b"granted 1\nnothing\nentries 1\n";
     // 28 bytes and the flush
     for at in 1u64..=29 {
-        let ran = replay_failing(
-            rt.alloc(),
-            Failing {
-                writes: &[at],
-                ..NONE_FAILS
-            },
-        )?;
+        let failing = Failing {
+            writes: &[at],
+            ..NONE_FAILS
+        };
+        let ran = replay_failing(rt.alloc(), failing)?;
         let put = whole.get(..at as usize - 1).ok_or("short")?;
         assert_eq!(rt; ran.text.as_slice(), put, "write {at}");
         assert_eq!(rt; ran.status, 5);

@@ -1,37 +1,41 @@
-//! The statuses of the program, each with what a run of it says.
+ghost use Rattle.std.specs.Prelude.{◌≡◌};
+ghost use Rattle.plchost.specs.Statuses.{number_of};
 
-/// All was well.
-pub const WELL: u8 = 0;
+/// What a run that nothing cut off came to.
+#[derive(Clone, Copy, Debug, PartialEq, Eq)]
+pub enum Status {
+    Well,
+    /// The file's text is outside the first form.
+    NotBuilt,
+    WordsRefused,
+    FileFault,
+    /// The input failed.
+    ReadFault,
+    ValueRefused,
+    /// The input ended inside a value.
+    Truncated,
+    LineRefused,
+    /// The description has no type of the name.
+    TypeRefused,
+    /// The input has more bytes than are taken into account.
+    TooLong,
+}
 
-/// The file isn't a description in the first form.
-pub const NOT_BUILT: u8 = 1;
+impl From<Status> for u8 {
+    ghost from_gives = { λ status number. number ≡ number_of status };
 
-/// The words are no command's.
-pub const WORDS_REFUSED: u8 = 2;
-
-/// The file couldn't be read.
-pub const FILE_FAULT: u8 = 3;
-
-/// The input failed.
-pub const READ_FAULT: u8 = 4;
-
-/// The output failed.
-pub const WRITE_FAULT: u8 = 5;
-
-/// A value is refused.
-pub const VALUE_REFUSED: u8 = 6;
-
-/// The input ended inside a value.
-pub const TRUNCATED: u8 = 7;
-
-/// Memory ran out.
-pub const NO_MEMORY: u8 = 8;
-
-/// A line of a script is refused.
-pub const LINE_REFUSED: u8 = 10;
-
-/// The description has no type of the name.
-pub const TYPE_REFUSED: u8 = 12;
-
-/// The input has more bytes than are taken into account.
-pub const TOO_LONG: u8 = 13;
+    fn from(status: Status) -> u8 {
+        match status {
+            Status::Well => 0,
+            Status::NotBuilt => 1,
+            Status::WordsRefused => 2,
+            Status::FileFault => 3,
+            Status::ReadFault => 4,
+            Status::ValueRefused => 6,
+            Status::Truncated => 7,
+            Status::LineRefused => 10,
+            Status::TypeRefused => 12,
+            Status::TooLong => 13,
+        }
+    }
+}

@@ -4,12 +4,16 @@ use crate::known_words;
 use crate::tool::tool_main;
 use link_io::{MemShelf, MemSink, MemSource, StringList};
 use std::alloc::{AllocError, Global};
+use std::fmt::Write;
 use std::io;
 use std::io::ErrorKind;
 use std::test::Fail;
 
 /// The file `p`, where a test names no other.
 const P: &[u8] = b"[type P [simple uint 8 a] [simple uint 16 b]]";
+
+/// A file of values of one byte.
+const ONE_BYTE: &[u8] = b"[type P [simple uint 8 a]]";
 
 /// The numbers of the calls that fail, from 1.
 #[derive(Clone, Copy)]
@@ -79,74 +83,107 @@ pub fn run(
     Ok(Ran { text, status })
 }
 
+/// `decode p P` where no call fails, in pieces of at most `piece` bytes.
+fn decoded(alloc: Global, text: &[u8], input: &[u8], piece: usize) -> Result<Ran, AllocError>
+    requires { 0 < piece }
+{
+    run(alloc, &["decode", "p", "P"], text, input, NONE_FAILS, piece)
+}
+
+/// Texts of `p` and inputs, with what `decode p P` puts out for them and its status.
+const DECODED: [(&[u8], &[u8], &[u8], u8); 9] = [
+    (P, b"\x01\x00\x02", b"a = 1\nb = 2\n\n", 0),
+    (P, b"", b"", 0),
+    (P, b"\x01\x00", b"truncated 16\n", 7),
+    (
+        P,
+        b"\x01\x00\x02\xff\xff\xff",
+        b"a = 1\nb = 2\n\na = 255\nb = 65535\n\n",
+        0,
+    ),
+    (P, b"\x01\x00\x02\x01", b"a = 1\nb = 2\n\ntruncated 8\n", 7),
+    (
+        b"[type P [simple uint 64 n]]",
+        b"\xff\xff\xff\xff\xff\xff\xff\xff",
+        b"n = 18446744073709551615\n\n",
+        0,
+    ),
+    (
+        b"[type P [simple uint 32 n]]",
+        b"\x00\x00\x00\x00",
+        b"n = 0\n\n",
+        0,
+    ),
+    (
+        b"[type Q [simple uint 8 a]]",
+        b"\x01",
+        b"type refused\n",
+        12,
+    ),
+    (
+        b"[type P [simple uint 12 a]]",
+        b"\x01",
+        b"description refused 1:1 NotBuilt\n",
+        1,
+    ),
+];
+
 #[test]
 fn decodes_values_and_says_what_is_wrong(rt: HostRuntime) -> Result<(), Fail> {
-    let two: &[u8] = b"a = 1\nb = 2\n\na = 255\nb = 65535\n\n";
-    let cases: [(&[u8], &[u8], &[u8], u8); 9] = [
-        (P, b"\x01\x00\x02", b"a = 1\nb = 2\n\n", 0),
-        (P, b"", b"", 0),
-        (P, b"\x01\x00", b"truncated 16\n", 7),
-        (P, b"\x01\x00\x02\xff\xff\xff", two, 0),
-        (P, b"\x01\x00\x02\x01", b"a = 1\nb = 2\n\ntruncated 8\n", 7),
-        (
-            b"[type P [simple uint 64 n]]",
-            b"\xff\xff\xff\xff\xff\xff\xff\xff",
-            b"n = 18446744073709551615\n\n",
-            0,
-        ),
-        (
-            b"[type P [simple uint 32 n]]",
-            b"\x00\x00\x00\x00",
-            b"n = 0\n\n",
-            0,
-        ),
-        (
-            b"[type Q [simple uint 8 a]]",
-            b"\x01",
-            b"type refused\n",
-            12,
-        ),
-        (
-            b"[type P [simple uint 12 a]]",
-            b"\x01",
-            b"description refused 1:1 NotBuilt\n",
-            1,
-        ),
-    ];
-    for (text, input, want, status) in cases {
-        for piece in 1usize..5 {
-            let ran = run(
-                rt.alloc(),
-                &["decode", "p", "P"],
-                text,
-                input,
-                NONE_FAILS,
-                piece,
-            )?;
-            assert_eq!(rt; ran.text.as_slice(), want);
-            assert_eq!(rt; ran.status, status);
-        }
+    for (text, input, want, status) in DECODED {
+        let ran = decoded(rt.alloc(), text, input, 100)?;
+        assert_eq!(rt; ran.text.as_slice(), want);
+        assert_eq!(rt; ran.status, status);
     }
     Ok(())
 }
 
 #[test]
+fn small_pieces_change_nothing(rt: HostRuntime) -> Result<(), Fail> {
+    for piece in 1usize..8 {
+        let ran = decoded(rt.alloc(), P, b"\x01\x00\x02\xff\xff\xff\x01", piece)?;
+        let want: &[u8] = b"a = 1\nb = 2\n\na = 255\nb = 65535\n\ntruncated 8\n";
+        assert_eq!(rt; ran.text.as_slice(), want, "pieces of {piece}");
+        assert_eq!(rt; ran.status, 7);
+    }
+    Ok(())
+}
+
+#[test]
+fn an_output_of_more_bytes_than_are_gathered_is_whole(rt: HostRuntime) -> Result<(), Fail> {
+    let mut input = Vec::new(rt.alloc());
+    let mut want = String::new(rt.alloc());
+    for number in 0u32..20_000 {
+        let byte = (number % 256) as u8;
+        input.push(byte)?;
+        write!(want, "a = {byte}\n\n")?;
+    }
+    assert!(rt; want.len() > 131_072);
+    let ran = decoded(rt.alloc(), ONE_BYTE, &input, 100_000)?;
+    assert_eq!(rt; ran.text.as_slice(), want.as_bytes());
+    assert_eq!(rt; ran.status, 0);
+    Ok(())
+}
+
+/// Words that are no command's.
+const REFUSED_WORDS: [&[&str]; 12] = [
+    &[],
+    &["replay", "p"],
+    &["replays"],
+    &["Replay"],
+    &["frob"],
+    &["--help"],
+    &["decode"],
+    &["decode", "p"],
+    &["decode", "p", "P", "P"],
+    &["decode", "", "P"],
+    &["decode", "p", "-P"],
+    &["Decode", "p", "P"],
+];
+
+#[test]
 fn refuses_words(rt: HostRuntime) -> Result<(), Fail> {
-    let refused: [&[&str]; 12] = [
-        &[],
-        &["replay", "p"],
-        &["replays"],
-        &["Replay"],
-        &["frob"],
-        &["--help"],
-        &["decode"],
-        &["decode", "p"],
-        &["decode", "p", "P", "P"],
-        &["decode", "", "P"],
-        &["decode", "p", "-P"],
-        &["Decode", "p", "P"],
-    ];
-    for words in refused {
+    for words in REFUSED_WORDS {
         let ran = run(rt.alloc(), words, P, b"\x01", NONE_FAILS, 100)?;
         assert_eq!(rt; ran.text.as_slice(), b"words refused\n".as_slice());
         assert_eq!(rt; ran.status, 2);
@@ -182,73 +219,68 @@ fn a_file_that_there_is_not_is_a_file_fault(rt: HostRuntime) -> Result<(), Fail>
     Ok(())
 }
 
-/// Three values of one byte, read and put out a byte at a time, where one call fails.
+/// What three values of one byte, 1 to 3, are listed as.
+const THREE_VALUES: &[u8] = b"a = 1\n\na = 2\n\na = 3\n\n";
+
+/// These values, read and put out a byte at a time, where one call fails.
 fn run_failing(alloc: Global, failing: Failing<'_>) -> Result<Ran, AllocError> {
-    run(
-        alloc,
-        &["decode", "p", "P"],
-        b"[type P [simple uint 8 a]]",
-        b"\x01\x02\x03",
-        failing,
-        1,
-    )
+    let words = ["decode", "p", "P"];
+    run(alloc, &words, ONE_BYTE, b"\x01\x02\x03", failing, 1)
 }
 
 #[test]
-fn a_fault_at_each_call_has_its_status(rt: HostRuntime) -> Result<(), Fail> {
-    let whole: &[u8] = b"a = 1\n\na = 2\n\na = 3\n\n";
+fn a_fault_at_each_read_ends_the_values(rt: HostRuntime) -> Result<(), Fail> {
     // three bytes and the end, each a read
     for at in 1u64..=4 {
-        let ran = run_failing(
-            rt.alloc(),
-            Failing {
-                reads: &[at],
-                ..NONE_FAILS
-            },
-        )?;
-        let values = 7 * (at as usize - 1);
-        let mut want = Vec::from_slice(rt.alloc(), whole.get(..values).ok_or("short")?)?;
+        let failing = Failing {
+            reads: &[at],
+            ..NONE_FAILS
+        };
+        let ran = run_failing(rt.alloc(), failing)?;
+        let values = THREE_VALUES.get(..7 * (at as usize - 1)).ok_or("short")?;
+        let mut want = Vec::from_slice(rt.alloc(), values)?;
         want.extend_from_slice(b"read fault\n")?;
         assert_eq!(rt; ran.text.as_slice(), want.as_slice(), "read {at}");
         assert_eq!(rt; ran.status, 4);
     }
+    Ok(())
+}
+
+#[test]
+fn a_fault_at_each_read_of_the_file_is_a_file_fault(rt: HostRuntime) -> Result<(), Fail> {
     // 26 bytes of text and the end
     for at in 1u64..=27 {
-        let ran = run_failing(
-            rt.alloc(),
-            Failing {
-                file_reads: &[at],
-                ..NONE_FAILS
-            },
-        )?;
-        assert_eq!(rt;
-            ran.text.as_slice(),
-            b"file fault\n".as_slice(),
-            "file read {at}"
-        );
+        let failing = Failing {
+            file_reads: &[at],
+            ..NONE_FAILS
+        };
+        let ran = run_failing(rt.alloc(), failing)?;
+        let want: &[u8] = b"file fault\n";
+        assert_eq!(rt; ran.text.as_slice(), want, "file read {at}");
         assert_eq!(rt; ran.status, 3);
     }
+    Ok(())
+}
+
+#[test]
+fn a_fault_at_each_write_leaves_a_front(rt: HostRuntime) -> Result<(), Fail> {
     // 21 bytes and the flush
     for at in 1u64..=22 {
-        let ran = run_failing(
-            rt.alloc(),
-            Failing {
-                writes: &[at],
-                ..NONE_FAILS
-            },
-        )?;
-        let put = whole.get(..at as usize - 1).ok_or("short")?;
+        let failing = Failing {
+            writes: &[at],
+            ..NONE_FAILS
+        };
+        let ran = run_failing(rt.alloc(), failing)?;
+        let put = THREE_VALUES.get(..at as usize - 1).ok_or("short")?;
         assert_eq!(rt; ran.text.as_slice(), put, "write {at}");
         assert_eq!(rt; ran.status, 5);
     }
-    let ran = run_failing(
-        rt.alloc(),
-        Failing {
-            writes: &[23],
-            ..NONE_FAILS
-        },
-    )?;
-    assert_eq!(rt; ran.text.as_slice(), whole);
+    let behind_all = Failing {
+        writes: &[23],
+        ..NONE_FAILS
+    };
+    let ran = run_failing(rt.alloc(), behind_all)?;
+    assert_eq!(rt; ran.text.as_slice(), THREE_VALUES);
     assert_eq!(rt; ran.status, 0);
     Ok(())
 }

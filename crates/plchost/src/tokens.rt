@@ -4,7 +4,7 @@ ghost use Rattle.std.specs.Prelude.{◌≡◌};
 ghost use Rattle.std.specs.List.{list_any, prefix_len};
 ghost use Rattle.std.specs.Str.{bytes_eq};
 ghost use Rattle.plchost.specs.FirstForm.{begins_word, reserved};
-ghost use Rattle.plchost.specs.FormReaders.{Gives, is_in, front, behind, symbol_of, word_of, keyword_of, name_of, width_spelled, number_of};
+ghost use Rattle.plchost.specs.FormReaders.{Gives, is_in, front, behind, symbol_of, word_of, keyword_of, name_of, width_spelled, width_of};
 
 /// The words that no name may be.
 const RESERVED: [&[u8]; 15] = [
@@ -133,23 +133,19 @@ pub fn name(text: &[u8]) -> Option<(&[u8], &[u8])>
 fn width_spelled(digits: &[u8]) -> Option<Width>
     ensures { result ≡ width_spelled digits.now }
 {
-    if digits == b"8".as_slice() {
-        Some(Width::Bits8)
-    } else if digits == b"16".as_slice() {
-        Some(Width::Bits16)
-    } else if digits == b"32".as_slice() {
-        Some(Width::Bits32)
-    } else if digits == b"64".as_slice() {
-        Some(Width::Bits64)
-    } else {
-        None
+    match digits {
+        b"8" => Some(Width::Bits8),
+        b"16" => Some(Width::Bits16),
+        b"32" => Some(Width::Bits32),
+        b"64" => Some(Width::Bits64),
+        _ => None,
     }
 }
 
 /// The width, and what follows it.
-#[tactic(auto, unfolding(crate::specs::FormReaders::number_of))]
-pub fn number(text: &[u8]) -> Option<(Width, &[u8])>
-    ensures { Gives (λ r. (r.0, r.1.now)) result (number_of text.now) }
+#[tactic(auto, unfolding(crate::specs::FormReaders::width_of))]
+pub fn bit_width(text: &[u8]) -> Option<(Width, &[u8])>
+    ensures { Gives (λ r. (r.0, r.1.now)) result (width_of text.now) }
 {
     let (digits, rest) = split(ByteClass::Digit, behind_blanks(text));
     let width = width_spelled(digits)?;

@@ -1,22 +1,24 @@
-ghost use Rattle.std.specs.Prelude.{◌≡◌, ◌≢◌, ◌+◌, ◌<◌, ◌⊎◌, ℕ, List, ◌++◌, take, None, Some, Ok, Err, IfOk, OnOk, OnErr};
+ghost use Rattle.std.specs.Prelude.{◌≡◌, ◌≢◌, ◌+◌, ◌<◌, ◌⊎◌, ℕ, List, [], ◌++◌, take, None, Some, Ok, Err, IfOk, OnOk, OnErr};
 ghost use Rattle.link_io.specs.Counts.{Rose};
 ghost use Rattle.link_io.specs.Streams.{after_taking};
 ghost use Rattle.mspec_tree.specs.declared.defs.Description.{Description};
-ghost use Rattle.mspec_meaning.specs.Stream.{End, TooFew};
+ghost use Rattle.node_tree.specs.declared.readings.Reading.{Reading};
+ghost use Rattle.mspec_meaning.specs.Stream.{End, Refused, Stream, TooFew, Why};
 ghost use Rattle.script_replay.specs.Replays.{Script};
 ghost use Rattle.script_replay.specs.declared.replays.ScriptEnd.{ScriptEnd};
 ghost use Rattle.plchost.specs.FirstForm.{FirstForm};
 ghost use Rattle.plchost.specs.Lines.{lines_of};
 ghost use Rattle.plchost.specs.Runs.{FileSeen, InputTaken, IsCountedWithFile, IsReady, IsRun, LacksFile, PutsFront, RunsTo, StopsEarly, WasDecoded, WasReplayed, last_of, shown};
+ghost use Rattle.plchost.specs.Statuses.{number_of};
 ghost use Rattle.plchost.specs.Told.{IsTold, NoneFailed, TellsScript, TellsValues};
-ghost use Rattle.plchost.specs.Tool.{AreDecode, AreRefused, AreReplay, Names, Said, Taken, Tool, input_limit, line_refused, refused_line};
+ghost use Rattle.plchost.specs.Tool.{AreDecode, AreRefused, AreReplay, Names, Said, Taken, Tool, input_limit, refusal_of_line, refused_line};
 ghost use Rattle.plchost.specs.declared.inputs.How.{How};
 
 use crate::decoding::decode;
 use crate::faults::Cut;
 use crate::printing::put_all;
 use crate::replaying::replay;
-use crate::statuses::{NO_MEMORY, WRITE_FAULT};
+use crate::statuses::Status;
 use crate::words::is_replay;
 use link_io::{Failed, Shelf, Sink, Source, StringList};
 use std::alloc::Global;
@@ -31,9 +33,15 @@ pub fn one_said()
 pub fn some_said()
     ensures left { (words : List (List ℕ)) (t : Taken) (left : How) → t.how ≡ Some left → (outcome : Said) × Tool words t outcome }
     ensures alone { (words : List (List ℕ)) (t : Taken) → t.how ≡ None → (AreReplay words → ⊥)
-        → ((name kind text : List ℕ) (d : Description) (def : ℕ)
-        → AreDecode words name kind → t.file ≡ Some text → FirstForm text d → Names d def kind → ⊥)
+        → ((file_name type_name text : List ℕ) (d : Description) (def : ℕ)
+        → AreDecode words file_name type_name → t.file ≡ Some text → FirstForm text d → Names d def type_name → ⊥)
         → (outcome : Said) × Tool words t outcome }
+{}
+
+/// A description in the first form refuses no value.
+pub fn no_form_refuses()
+    ensures { (text : List ℕ) (d : Description) (def : ℕ) (bytes : List ℕ) (readings : List Reading) (bit : ℕ) (why : Why)
+        → FirstForm text d → Stream d def [] bytes readings (Refused bit why) → ⊥ }
 {}
 
 /// Adds what the run says to what is gathered, of which some may go out on the way, and answers the status.
@@ -44,14 +52,15 @@ fn run<F: Shelf, S: Source, K: Sink>(
     input: &mut S,
     out: &mut K,
     gathered: &mut Vec<u8>,
-) -> Result<u8, Cut>
+) -> Result<Status, Cut>
     ensures run { RunsTo words.now F.counts_with
         (shown (F.seen files.old) (S.seen input.old) (K.seen out.old))
         (shown (F.seen files.new) (S.seen input.new) (K.seen out.new)) gathered.old.items gathered.new.items result }
-    ensures lacking { LacksFile words.now (F.seen files.old) → IfOk result (λ status. status ≡ 3) }
+    ensures lacking { LacksFile words.now (F.seen files.old)
+        → (input.new ≡ input.old) × ((result ≡ Ok Status.FileFault) ⊎ (result ≡ Err Cut.NoMemory)) }
     ensures touched { (input.new ≡ input.old) ⊎ ((d : Description) × (def : ℕ)
         × IsReady words.now F.counts_with (F.seen files.old) (F.seen files.new) d def) ⊎ AreReplay words.now }
-    ensures untouched { IfOk result (λ status. StopsEarly status → input.new ≡ input.old) }
+    ensures untouched { IfOk result (λ status. StopsEarly (number_of status) → input.new ≡ input.old) }
 {
     if is_replay(words) {
         replay(alloc, input, out, gathered)
@@ -71,24 +80,35 @@ fn put_and_flush<K: Sink>(out: &mut K, gathered: &[u8], last: &[u8]) -> Result<(
     out.flush()
 }
 
-/// Puts the rest of a run's text out, and its last line, and answers its status, or that of a write fault.
-fn put_last<K: Sink>(out: &mut K, gathered: &[u8], last: &[u8], status: u8) -> u8
-    requires { status ≢ 5 }
-    ensures done { result ≢ 5 → (result ≡ status)
-        × ((K.seen out.new).held ≡ after_taking (gathered.now ++ last.now) (K.seen out.old).held)
-        × ((K.seen out.new).faults ≡ (K.seen out.old).faults) }
-    ensures cut { result ≡ 5 → PutsFront (K.seen out.old).held (K.seen out.new).held (gathered.now ++ last.now)
-        × Rose (K.seen out.old).faults (K.seen out.new).faults }
+/// The line that stands behind what a run has said.
+fn last_line(ran: Result<Status, Cut>) -> &'static [u8]
+    ensures { result.now ≡ (last_of ran).text }
 {
-    match put_and_flush(out, gathered, last) {
-        Ok(()) => status,
-        Err(Failed) => WRITE_FAULT,
+    match ran {
+        Err(Cut::NoMemory) => b"no memory\n",
+        _ => b"",
     }
 }
 
+/// Puts the rest of a run's text out, and its last line. Where the output fails the run is cut off.
+fn put_last<K: Sink>(out: &mut K, gathered: &[u8], ran: Result<Status, Cut>) -> Result<Status, Cut>
+    ensures done { result ≢ Err Cut.WriteFault → (result ≡ ran)
+        × ((K.seen out.new).held ≡ after_taking (gathered.now ++ (last_of ran).text) (K.seen out.old).held)
+        × ((K.seen out.new).faults ≡ (K.seen out.old).faults) }
+    ensures cut { result ≡ Err Cut.WriteFault → ran ≢ Err Cut.WriteFault
+        → PutsFront (K.seen out.old).held (K.seen out.new).held (gathered.now ++ (last_of ran).text)
+        × Rose (K.seen out.old).faults (K.seen out.new).faults }
+    ensures failed { ran ≡ Err Cut.WriteFault → (result ≡ ran) × (out.new ≡ out.old) }
+{
+    if let Err(Cut::WriteFault) = ran {
+        return ran;
+    }
+    put_and_flush(out, gathered, last_line(ran))?;
+    ran
+}
+
 /// Puts the rest of a run's text out, behind it a line where memory ran out, and answers the status.
-pub fn conclude<K: Sink>(out: &mut K, gathered: &[u8], ran: Result<u8, Cut>) -> u8
-    requires { ran ≢ Ok 5 }
+pub fn conclude<K: Sink>(out: &mut K, gathered: &[u8], ran: Result<Status, Cut>) -> u8
     ensures done { result ≢ 5 → (result ≡ (last_of ran).status)
         × ((K.seen out.new).held ≡ after_taking (gathered.now ++ (last_of ran).text) (K.seen out.old).held)
         × ((K.seen out.new).faults ≡ (K.seen out.old).faults) }
@@ -97,10 +117,9 @@ pub fn conclude<K: Sink>(out: &mut K, gathered: &[u8], ran: Result<u8, Cut>) -> 
         × Rose (K.seen out.old).faults (K.seen out.new).faults }
     ensures failed { ran ≡ Err Cut.WriteFault → (result ≡ 5) × (out.new ≡ out.old) }
 {
-    match ran {
-        Ok(status) => put_last(out, gathered, b"", status),
-        Err(Cut::NoMemory) => put_last(out, gathered, b"no memory\n", NO_MEMORY),
-        Err(Cut::WriteFault) => WRITE_FAULT,
+    match put_last(out, gathered, ran) {
+        Ok(status) => status.into(),
+        Err(cut) => cut.into(),
     }
 }
 
@@ -130,23 +149,27 @@ pub fn tool_main<F: Shelf, S: Source, K: Sink>(
     ensures words_refused { result ≡ 2 → AreRefused words.now }
     ensures only_commands { AreRefused words.now → (result ≡ 2) ⊎ ((result ≡ 5) ⊎ (result ≡ 8)) }
     // The text is outside the first form, or has no type of that name.
-    ensures not_built { result ≡ 1 → (name kind text : List ℕ) × AreDecode words.now name kind
-        × FileSeen name (F.seen files.old) (F.seen files.new) (Some text)
+    ensures not_built { result ≡ 1 → (file_name type_name text : List ℕ) × AreDecode words.now file_name type_name
+        × FileSeen file_name (F.seen files.old) (F.seen files.new) (Some text)
         × ((d : Description) → FirstForm text d → ⊥) }
-    ensures type_refused { result ≡ 12 → (name kind text : List ℕ) × (d : Description) × AreDecode words.now name kind
-        × FileSeen name (F.seen files.old) (F.seen files.new) (Some text)
-        × FirstForm text d × ((def : ℕ) → Names d def kind → ⊥) }
-    // The file failed only where its count rose. It fails where its count rose or the shelf tells that there is none. No count
-    // changes but those of names that the shelf counts together with it, and with `replay` none at all.
-    ensures file_fault { result ≡ 3 → (name kind : List ℕ) × AreDecode words.now name kind
-        × Rose ((F.seen files.old).faults name) ((F.seen files.new).faults name) }
-    ensures file_failed { (name kind : List ℕ) → AreDecode words.now name kind
-        → (F.seen files.old).faults name < (F.seen files.new).faults name
+    ensures type_refused { result ≡ 12 → (file_name type_name text : List ℕ) × (d : Description)
+        × AreDecode words.now file_name type_name
+        × FileSeen file_name (F.seen files.old) (F.seen files.new) (Some text)
+        × FirstForm text d × ((def : ℕ) → Names d def type_name → ⊥) }
+    // The file failed only where its count rose. It fails where its count rose or the shelf tells that there is none, and then
+    // the input is left alone. No count changes but those of names that the shelf counts together with it, and with all other
+    // words none at all.
+    ensures file_fault { result ≡ 3 → (file_name type_name : List ℕ) × AreDecode words.now file_name type_name
+        × Rose ((F.seen files.old).faults file_name) ((F.seen files.new).faults file_name) }
+    ensures file_failed { (file_name type_name : List ℕ) → AreDecode words.now file_name type_name
+        → (F.seen files.old).faults file_name < (F.seen files.new).faults file_name
         → (result ≡ 3) ⊎ ((result ≡ 5) ⊎ (result ≡ 8)) }
-    ensures no_such_file { LacksFile words.now (F.seen files.old) → (result ≡ 3) ⊎ ((result ≡ 5) ⊎ (result ≡ 8)) }
+    ensures no_such_file { LacksFile words.now (F.seen files.old)
+        → (input.new ≡ input.old) × ((result ≡ 3) ⊎ ((result ≡ 5) ⊎ (result ≡ 8))) }
     ensures other_files { (other : List ℕ) → (IsCountedWithFile F.counts_with words.now other → ⊥)
         → (F.seen files.new).faults other ≡ (F.seen files.old).faults other }
-    // A read fault comes only where the input's count rose, and the input ended where all is well or truncated.
+    // A read fault comes only where the input's count rose. The input is too long only where one byte more than the limit was
+    // taken of it. It ended where all is well or truncated.
     ensures read_fault { result ≡ 4 → Rose (S.seen input.old).faults (S.seen input.new).faults }
     ensures too_long { result ≡ 13 → (taken : List ℕ)
         × InputTaken (S.seen input.old) (S.seen input.new) taken (Some How.Over) }
@@ -180,7 +203,7 @@ pub fn tool_main<F: Shelf, S: Source, K: Sink>(
         (shown (F.seen files.old) (S.seen input.old) (K.seen out.old))
         (shown (F.seen files.new) (S.seen input.new) (K.seen out.new))
         → (result ≡ 0) ⊎ (result ≡ 8) }
-    // No value by a description in the first form is refused.
+    // Status 6 doesn't come, since a description in the first form refuses no value.
     ensures no_value_refused { result ≢ 6 }
     // A line is refused only where it is the first that leaves the first form, or must stand and is missing.
     ensures line_refused { result ≡ 10 → AreReplay words.now
@@ -188,7 +211,7 @@ pub fn tool_main<F: Shelf, S: Source, K: Sink>(
         × InputTaken (S.seen input.old) (S.seen input.new) taken (Some left)
         × Script (lines_of (Some left) (take input_limit taken)) text end
         × (refused_line left end ≡ Some line)
-        × ((K.seen out.new).held ≡ after_taking (text ++ (line_refused line).text) (K.seen out.old).held)) }
+        × ((K.seen out.new).held ≡ after_taking (text ++ (refusal_of_line line).text) (K.seen out.old).held)) }
 {
     let mut gathered = Vec::new(alloc);
     let ran = run(alloc, words, files, input, out, &mut gathered);

@@ -6,8 +6,8 @@ use link_io::StringList;
 /// The words behind `decode`.
 #[derive(Clone, Copy, Debug)]
 pub struct DecodeWords<'a> {
-    pub file: &'a str,
-    pub kind: &'a [u8],
+    pub file_name: &'a str,
+    pub type_name: &'a [u8],
 }
 
 /// Whether a word may stand in a place of its own: it isn't empty and begins with no `-`.
@@ -23,17 +23,17 @@ fn is_positional(word: &str) -> bool
 /// The words of `decode FILE TYPE`, if they are these.
 pub fn decode_words(words: &StringList) -> Option<DecodeWords<'_>>
     ensures { MatchOption result
-        ((file kind : List ℕ) → AreDecode words.now file kind → ⊥)
-        (λ found. AreDecode words.now found.file.now found.kind.now) }
+        ((file_name type_name : List ℕ) → AreDecode words.now file_name type_name → ⊥)
+        (λ found. AreDecode words.now found.file_name.now found.type_name.now) }
 {
     if words.len() != 3 {
         return None;
     }
-    let (command, file, kind) = (words.get(0)?, words.get(1)?, words.get(2)?);
-    if command == "decode" && is_positional(file) && is_positional(kind) {
+    let (command, file_name, type_name) = (words.get(0)?, words.get(1)?, words.get(2)?);
+    if command == "decode" && is_positional(file_name) && is_positional(type_name) {
         Some(DecodeWords {
-            file,
-            kind: kind.as_bytes(),
+            file_name,
+            type_name: type_name.as_bytes(),
         })
     } else {
         None

@@ -1,14 +1,16 @@
-use Rattle.std.proofs.Common.{rules, ◌≡◌, [], ◌++◌, take, min, Some, vec_len, inl, inr, refl, ap, ◌∙◌}
-use Rattle.std.proofs.lemmas.Result.{err_from_is_err_and, IfErr-at_err}
+use Rattle.std.proofs.Common.{rules, ◌≡◌, [], ◌++◌, take, min, Some, vec_len, inl, refl, ap, ◌∙◌}
+use Rattle.std.proofs.lemmas.Result.{err_from_is_err_and, IfErr-at_err, IfErr-weaker, IfOk-weaker}
 use Rattle.plchost.specs.declared.faults.Cut.TheVariants.{NoMemory}
 use Rattle.plchost.specs.declared.preparing.Refusal.{Refusal}
 use Rattle.plchost.specs.declared.preparing.Refusal.TheVariants.{FileFault}
 use Rattle.plchost.specs.Endings.{ending_of}
 use Rattle.plchost.specs.Preparing.{refusal_said, untaken}
+use Rattle.plchost.specs.Statuses.{number_of}
 use Rattle.plchost.specs.Tool.{listings, last_said, said, Values}
 use Rattle.plchost.proofs.FormReads.{form_reads}
 use Rattle.plchost.proofs.RunLemmas.{Adds-more, Adds-same, Adds-nothing, Adds-gathered}
 use Rattle.plchost.proofs.ToolLemmas.{untouched, both_ok, refusal_tool, decoded, comes_to_values, front_of_values, front_before_last, taken_so, values_tool}
+use Rattle.plchost.proofs.EndLemmas.{three_or_none}
 use Rattle.plchost.proofs.StatusLemmas.{not_early}
 use Rattle.plchost.proofs.WholeLines.{listings_whole}
 use Rattle.plchost.proofs.decoding.decode.Goals as goal
@@ -137,18 +139,24 @@ returns-clause-run g c =
 
 pub returns-clause-untouched : goal.returns-clause-untouched
 returns-clause-untouched g c =
-    λ (early : _). absurd (not_early (Some c.in_ok-capture.capture.how) (ending_of c.in_ok-rest.rest) c.in_ok-status.status early c.in_ok-status.ensures.closed.1)
+    λ (early : _). absurd (not_early (Some c.in_ok-capture.capture.how) (ending_of c.in_ok-rest.rest) (number_of c.in_ok-status.status) early c.in_ok-status.ensures.closed.1)
 
 pub returns-in-Err-clause-lacking : goal.returns-in-Err-clause-lacking
 returns-in-Err-clause-lacking g c =
     λ lacks.
-    both_ok c.say.result _ _ _ c.say.ensures.said c.say.ensures.memory
-    (λ status added memory.
-    elim (c.in-Err.ensures.lacking lacks) [
-      | inl file ↦ added.1 ∙ ap (λ (r : Refusal). (refusal_said r).status) (let same : c.in-Err.refusal ≡ FileFault = cc in same)
-      | inr none ↦ absurd (memory cc)
-    ])
+    let file : c.in-Err.refusal ≡ FileFault = let h = c.in-Err.ensures.lacking lacks in cc in
+    let three = IfOk-weaker c.say.result _ _ (λ status added. added.1 ∙ ap (λ (r : Refusal). (refusal_said r).status) file) c.say.ensures.said in
+    let none = IfErr-weaker c.say.result _ _ (λ cut kept. kept.0) c.say.ensures.unchanged in
+    (refl, three_or_none c.say.result three none)
+
+pub returns-in_err-capture-clause-lacking : goal.returns-in_err-capture-clause-lacking
+returns-in_err-capture-clause-lacking g c = λ lacks. absurd (let h = c.in-Ok.ensures.lacking lacks in cc)
+
+pub returns-in_err-rest-clause-lacking : goal.returns-in_err-rest-clause-lacking
+returns-in_err-rest-clause-lacking g c = λ lacks. absurd (let h = c.in-Ok.ensures.lacking lacks in cc)
+
+pub returns-in_err-status-clause-lacking : goal.returns-in_err-status-clause-lacking
+returns-in_err-status-clause-lacking g c = λ lacks. absurd (let h = c.in-Ok.ensures.lacking lacks in cc)
 
 pub returns-clause-lacking : goal.returns-clause-lacking
-returns-clause-lacking g c =
-    λ lacks. elim (c.in-Ok.ensures.lacking lacks) [ inl file ↦ absurd cc | inr none ↦ absurd cc ]
+returns-clause-lacking g c = λ lacks. absurd (let h = c.in-Ok.ensures.lacking lacks in cc)

@@ -41,6 +41,10 @@ returns-then-count-eq0-clause-text g c =
     let end = subst (λ (told : Option (List ℕ)). IfSome told (λ bytes. length bytes ≤ len)) (inv.files name).0 over in
     front_all ((g.F.Shelf.seen c.args.files.now).file name) c.loop-buffer.text.items len 1048577 inv.within inv.front end
 
+pub returns-in_err-extend_from_slice-clause-lacking : goal.returns-in_err-extend_from_slice-clause-lacking
+returns-in_err-extend_from_slice-clause-lacking g c =
+    λ lacks. absurd (no_read c.in_ok-count.count _ _ (c.loop-buffer.invariant.files c.args.name.now).1 c.in_ok-count.ensures.lacking lacks)
+
 pub returns-clause-lacking : goal.returns-clause-lacking
 returns-clause-lacking g c = λ lacks. absurd (omega (arith, c.loop-buffer.invariant.lacking lacks))
 

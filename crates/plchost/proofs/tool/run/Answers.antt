@@ -1,5 +1,6 @@
 use Rattle.std.proofs.Common.{rules, None, Some}
 use Rattle.std.proofs.lemmas.Result.{IfOk-weaker}
+use Rattle.plchost.specs.Statuses.{number_of}
 use Rattle.plchost.specs.Tool.{Answers, said}
 use Rattle.plchost.proofs.StatusLemmas.{not_both, script_not_early}
 use Rattle.plchost.proofs.ToolLemmas.{shelf_alone, script_taken, script_tool, front_of_script}
@@ -27,7 +28,7 @@ returns-then-is_replay-clause-run g c =
 
 pub returns-then-is_replay-clause-untouched : goal.returns-then-is_replay-clause-untouched
 returns-then-is_replay-clause-untouched g c =
-    IfOk-weaker c.replay.result _ _ (λ status s early. absurd (script_not_early (Some s.1) s.3 status early s.7)) c.replay.ensures.said
+    IfOk-weaker c.replay.result _ _ (λ status s early. absurd (script_not_early (Some s.1) s.3 (number_of status) early s.7)) c.replay.ensures.said
 
 pub returns-then-is_replay-clause-lacking : goal.returns-then-is_replay-clause-lacking
 returns-then-is_replay-clause-lacking g c =

@@ -1,20 +1,13 @@
 use Rattle.std.proofs.Common.{◌≡◌, ◌≢◌, ℕ, ◌⊎◌, true, inl, inr, ap, sym, ◌∙◌, arith}
 use Rattle.std.proofs.lemmas.Bool.{cases_eq}
-use Rattle.std.proofs.lemmas.Result.{IfOk-at_ok}
 use Rattle.plchost.specs.Tool.{Said}
-use Rattle.plchost.proofs.StatusLemmas.{words_at_2, only_words, fault_at_3, rose_at_none, none_at_rise, only_fault, rose_at_4, ended_at, is_end, over_at_13, refused_at_12, seen_of, unformed_at_1, cut_status}
+use Rattle.plchost.proofs.StatusLemmas.{words_at_2, only_words, fault_at_3, rose_at_none, none_at_rise, only_fault, rose_at_4, ended_at, is_end, over_at_13, refused_at_12, seen_of, unformed_at_1}
 use Rattle.plchost.proofs.NoRefusal.{no_status_6}
 use Rattle.plchost.proofs.Complete.{complete, script_well, values_well}
 use Rattle.plchost.proofs.EndLemmas.{concluded, early_of, lacking_of}
 use Rattle.plchost.proofs.EndStatus.{cut_at_7, well_at_0}
 use Rattle.plchost.proofs.ScriptStatus.{line_at_10}
 use Rattle.plchost.proofs.tool.tool_main.Goals as goal
-
-pub conclude-requires : goal.conclude-requires
-conclude-requires g c =
-    λ (e : _).
-    let s = IfOk-at_ok _ e c.run-ran.ensures.run.said in
-    (cut_status c.args.words.now s.0 s.1 s.3).0 (sym s.5)
 
 pub returns-clause-run : goal.returns-clause-run
 returns-clause-run g c =
@@ -27,7 +20,9 @@ returns-clause-untouched g c =
 
 pub returns-clause-no_such_file : goal.returns-clause-no_such_file
 returns-clause-no_such_file g c =
-    λ (lacks : _). lacking_of c.run-ran.result c.conclude.result (λ well. (c.conclude.ensures.done well).0) (c.run-ran.ensures.lacking lacks)
+    λ (lacks : _).
+    let failed = c.run-ran.ensures.lacking lacks in
+    (failed.0, lacking_of c.run-ran.result c.conclude.result (λ well. (c.conclude.ensures.done well).0) failed.1)
 
 pub returns-clause-words_refused : goal.returns-clause-words_refused
 returns-clause-words_refused g c =
