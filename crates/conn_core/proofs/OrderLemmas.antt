@@ -1,5 +1,5 @@
 -- The rows of a table stand by rising id, below the next one, and a request that was collected has none.
-use Rattle.std.proofs.Common.{◌≡◌, ◌⊎◌, ℕ, ◌+◌, ◌<◌, Bool, true, false, cond, List, [], ◌∷◌, ◌++◌, Option, Some, None, length, inl, inr, refl, sym, ap, ◌∙◌, subst, arith}
+use Rattle.std.proofs.Common.{◌≡◌, ℕ, ◌+◌, ◌<◌, Bool, true, false, cond, List, [], ◌∷◌, ◌++◌, Option, Some, None, inl, inr, refl, sym, ap, ◌∙◌, subst, arith}
 use Rattle.std.specs.Prelude.{◌==◌, ◌||◌, All, AllPairs, map}
 use Rattle.std.specs.List.{find, list_any}
 use Rattle.std.proofs.lemmas.Bool.Decides.{nat_tests}
@@ -7,10 +7,9 @@ use Rattle.std.proofs.lemmas.Bool.{and_parts}
 use Rattle.std.proofs.lemmas.List.Elements.{All-cons, All-head, All-nil, All-push, All-tail, All-weaker}
 use Rattle.std.proofs.lemmas.List.Kept.{AllPairs-cons}
 use Rattle.conn_core.specs.Finds.{change_first, remove_first}
-use Rattle.conn_core.specs.RowLaw.{HasRow, WasCollected}
+use Rattle.conn_core.specs.RowLaw.{WasCollected}
 use Rattle.conn_core.specs.Steps.{asked_if, cancelled, without_row}
 use Rattle.conn_core.specs.Tables.{Connection, Table, at_moment, ended_row, is_queued, is_row_of, is_sent_with, lost_row, sent_row}
-use Rattle.conn_core.specs.declared.entries.Answer.{Answer}
 use Rattle.conn_core.specs.declared.entries.Entry.{Entry}
 use Rattle.conn_core.specs.declared.entries.Event.{Event}
 use Rattle.conn_core.specs.declared.entries.Event.TheVariants as events

@@ -1,5 +1,5 @@
 -- The table after a legal journal is as the journal's places say.
-use Rattle.std.proofs.Common.{◌≡◌, ◌<◌, arith, false, List, [], ◌∷◌, ◌++◌, Option, Some, None, length, refl, sym, ap, ◌∙◌, subst}
+use Rattle.std.proofs.Common.{◌≡◌, ◌<◌, arith, false, List, Option, Some, None, length, refl, sym, ap, ◌∙◌, subst}
 use Rattle.std.specs.Prelude.{IfSome, is_some}
 use Rattle.wire_frames.specs.declared.ends.Reason.{Reason}
 use Rattle.conn_core.specs.Entries.{closing_reason}

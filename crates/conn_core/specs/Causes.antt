@@ -1,5 +1,5 @@
 -- Why calls are refused, by what they find.
-use Rattle.std.specs.Prelude.{◌≡◌, ◌≢◌, ◌⊎◌, ℕ, ◌<◌, ◌≤◌, false, [], Some, None, Err, count_by, length}
+use Rattle.std.specs.Prelude.{◌≡◌, ◌≢◌, ◌⊎◌, ℕ, ◌<◌, false, [], Some, None, Err, count_by, length}
 use Rattle.std.specs.List.{find}
 use Rattle.node_tree.specs.declared.faults.WriteWhy.{WriteWhy}
 use Rattle.wire_frames.specs.WireMeaning.{WireMeaning}

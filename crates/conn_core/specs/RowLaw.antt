@@ -1,6 +1,6 @@
 -- What the rows of a legal journal's table are: requests that the journal accepted, and what became of them.
-use Rattle.std.specs.Prelude.{◌≡◌, ◌⊎◌, ℕ, ◌<◌, ◌≤◌, ◌==◌, true, false, List, [], Some, Ok, All, AllPairs}
-use Rattle.std.specs.List.{list_any, slice_get}
+use Rattle.std.specs.Prelude.{◌≡◌, ◌⊎◌, ℕ, ◌<◌, ◌≤◌, ◌==◌, true, false, List, [], Ok, All, AllPairs}
+use Rattle.std.specs.List.{list_any}
 use Rattle.node_tree.specs.declared.readings.Reading.{Reading}
 use Rattle.wire_frames.specs.declared.ends.EndKind.{EndKind}
 use Rattle.wire_frames.specs.declared.ends.EndKind.TheVariants as kinds

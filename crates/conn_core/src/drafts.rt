@@ -7,7 +7,7 @@ use wire_frames::{Ask, FrameFault, Wire};
 
 /// A frame twice: as the journal keeps it, and to be handed out.
 #[derive(Debug, Drop)]
-pub(crate) struct Frames {
+pub(crate) struct FrameCopies {
     pub written: ByteList,
     pub sent: ByteList,
 }
@@ -15,7 +15,7 @@ pub(crate) struct Frames {
 /// The frames of an ask, or the part of it that can't be written.
 #[derive(Debug, Drop)]
 pub(crate) enum Draft {
-    Written(Frames),
+    Written(FrameCopies),
     Unwritable { entry: u32, why: WriteWhy },
 }
 
@@ -37,5 +37,5 @@ pub(crate) fn write_frames<W: Wire>(
         Err(FrameFault::NoMemory) => return Err(AllocError),
     };
     let sent = OwnedList::from_slice(alloc, written.as_slice())?;
-    Ok(Draft::Written(Frames { written, sent }))
+    Ok(Draft::Written(FrameCopies { written, sent }))
 }

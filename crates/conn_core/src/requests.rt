@@ -7,7 +7,7 @@ ghost use Rattle.conn_core.specs.Steps.{IsGivenOrNoMemory, accepted_of, answer_o
 ghost use Rattle.conn_core.specs.declared.entries.Event.TheVariants as events;
 
 use crate::answers::{Accepted, SubmitRefusal};
-use crate::drafts::{Draft, Frames, write_frames};
+use crate::drafts::{Draft, FrameCopies, write_frames};
 use crate::entries::{Answer, Entry, Event};
 use crate::kept::{Kept, reserve_turn, write_down};
 use crate::settings::Settings;
@@ -22,7 +22,7 @@ fn take_frames<W: Wire>(
     table: &KeptTable,
     request: &Handed,
     draft: Draft,
-) -> Result<Frames, SubmitRefusal>
+) -> Result<FrameCopies, SubmitRefusal>
     requires admitted { IsTrue ((W.meaning wire.now).admits request.now.ask) }
     requires drafted { IsDraftOf ((W.meaning wire.now).frame_of request.now.ask (next_reference table.now.free.items)) draft }
     ensures written { IfOk result (λ frames.
@@ -88,7 +88,7 @@ pub(crate) fn submit<W: Wire>(
     let reference = peek_reference(&kept.table.free);
     let draft = write_frames(alloc, wire, &request.ask, reference)?;
     let frames = take_frames(wire, &kept.table, &request, draft)?;
-    let Frames { written, sent } = frames;
+    let FrameCopies { written, sent } = frames;
     let actor = request.actor;
     let event = Event::Submit {
         lease: request.lease,

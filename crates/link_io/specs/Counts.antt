@@ -1,5 +1,5 @@
 -- Counts that never fall: of faults, and of the times that an end was met.
-use Rattle.std.specs.Prelude.{ℕ, ◌≡◌, ◌+◌, ◌<◌, min, max}
+use Rattle.std.specs.Prelude.{ℕ, ◌≡◌, ◌+◌, min, max}
 
 -- the greatest count, where a count stands still
 abbrev pub top : ℕ

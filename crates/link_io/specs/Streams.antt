@@ -1,6 +1,6 @@
 -- What a source gave and has left, and what a sink holds, where they tell it.
 use Rattle.std.specs.Prelude.{ℕ, Bool, ◌≡◌, ◌≤◌, List, [], ◌++◌, length, take, drop, Option, Some, None, IfSome}
-use Rattle.std.proofs.Common.{refl, sym, ◌∙◌, ap, append_assoc, append-nil, take-add, take_all, length-take-le}
+use Rattle.std.proofs.Common.{refl, sym, ◌∙◌, ap, append_assoc, append-nil, take-add, length-take-le}
 use Rattle.std.proofs.lemmas.List.{length-append, drop-drop, take-append-drop}
 
 -- the bytes that a source gave so far, and those that it has left

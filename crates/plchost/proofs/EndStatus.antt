@@ -102,6 +102,7 @@ replayed words b a file bytes (Some Ended) text (Answered next entries) outcome 
       from_input = input;
       answered = by.2;
       leads = by.3;
+      legal = by.4.legal;
       unworn = by.4;
       two = by.6;
       put_out = put ∙ ap (λ (o : Said). after_taking o.text b.out.held) is ∙ ap (λ (last : List ℕ). after_taking (text ++ last) b.out.held) by.5;

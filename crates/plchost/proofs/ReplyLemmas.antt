@@ -8,33 +8,33 @@ use Rattle.script_lines.specs.declared.commands.Command.{Command}
 use Rattle.plchost.specs.declared.inputs.How.{How}
 use Rattle.plchost.specs.Lines.{has_ended, lines_in, lines_of}
 use Rattle.script_replay.proofs.ReplyLaws.{some_replies}
-use Rattle.script_replay.specs.Replays.{Replies, Script, after_command, entries, reply_text}
+use Rattle.script_replay.specs.Replays.{AreAnswered, Script, after_command, entries, command_text}
 use Rattle.script_replay.specs.declared.replays.ScriptEnd.{ScriptEnd}
 use Rattle.script_replay.specs.declared.replays.ScriptEnd.TheVariants.{Answered, Refused}
 
 -- Behind what was answered so far, a script goes on as its next lines do, from this number and this connection on.
 abbrev pub GoesOn : (all : List (List ℕ)) → (n : ℕ) → Option (State RawWire) → (lines : List (List ℕ)) → (text : List ℕ) → Type 0
-GoesOn all n at lines text = (more : List ℕ) (end : ScriptEnd) → Replies n at lines more end → Script all (text ++ more) end
+GoesOn all n at lines text = (more : List ℕ) (end : ScriptEnd) → AreAnswered n at lines more end → Script all (text ++ more) end
 
 pub goes_first : (all : List (List ℕ)) → GoesOn all 1 None all []
 goes_first all = λ more end replies. replies
 
-pub one_more_answer : (all : List (List ℕ)) (n : ℕ) (at : Option (State RawWire)) (line : List ℕ) (lines rest : List (List ℕ)) (text : List ℕ) (command : Command) → lines ≡ line ∷ rest → IsLine n line command → GoesOn all n at lines text → GoesOn all (n + 1) (after_command at command) rest (text ++ reply_text at command)
+pub one_more_answer : (all : List (List ℕ)) (n : ℕ) (at : Option (State RawWire)) (line : List ℕ) (lines rest : List (List ℕ)) (text : List ℕ) (command : Command) → lines ≡ line ∷ rest → IsLine n line command → GoesOn all n at lines text → GoesOn all (n + 1) (after_command at command) rest (text ++ command_text at command)
 one_more_answer all n at line lines rest text command e is goes =
     λ more end replies.
-    let here : Replies n at lines (reply_text at command ++ more) end =
-    subst (λ (ls : List (List ℕ)). Replies n at ls (reply_text at command ++ more) end) (sym e) (inl (command, more, is, refl, replies)) in
-    subst (λ (all_text : List ℕ). Script all all_text end) (sym (append_assoc text (reply_text at command) more)) (goes (reply_text at command ++ more) end here)
+    let here : AreAnswered n at lines (command_text at command ++ more) end =
+    subst (λ (ls : List (List ℕ)). AreAnswered n at ls (command_text at command ++ more) end) (sym e) (inl (command, more, is, refl, replies)) in
+    subst (λ (all_text : List ℕ). Script all all_text end) (sym (append_assoc text (command_text at command) more)) (goes (command_text at command ++ more) end here)
 
 pub ends_answered : (all : List (List ℕ)) (n : ℕ) (at : Option (State RawWire)) (lines : List (List ℕ)) (text : List ℕ) → lines ≡ [] → GoesOn all n at lines text → Script all text (Answered n (entries at))
 ends_answered all n at lines text e goes =
     subst (λ (t : List ℕ). Script all t (Answered n (entries at))) (append-nil text)
-    (goes [] (Answered n (entries at)) (subst (λ (ls : List (List ℕ)). Replies n at ls [] (Answered n (entries at))) (sym e) (refl, refl)))
+    (goes [] (Answered n (entries at)) (subst (λ (ls : List (List ℕ)). AreAnswered n at ls [] (Answered n (entries at))) (sym e) (refl, refl)))
 
 pub ends_refused : (all : List (List ℕ)) (n : ℕ) (at : Option (State RawWire)) (line : List ℕ) (lines rest : List (List ℕ)) (text : List ℕ) → lines ≡ line ∷ rest → ((command : Command) → IsLine n line command → ⊥) → GoesOn all n at lines text → Script all text (Refused n)
 ends_refused all n at line lines rest text e none goes =
     subst (λ (t : List ℕ). Script all t (Refused n)) (append-nil text)
-    (goes [] (Refused n) (subst (λ (ls : List (List ℕ)). Replies n at ls [] (Refused n)) (sym e) (inr (none, refl, refl))))
+    (goes [] (Refused n) (subst (λ (ls : List (List ℕ)). AreAnswered n at ls [] (Refused n)) (sym e) (inr (none, refl, refl))))
 
 -- the script goes on somehow
 pub some_answers : (all : List (List ℕ)) (n : ℕ) (at : Option (State RawWire)) (lines : List (List ℕ)) (text : List ℕ) → GoesOn all n at lines text → (rest : List ℕ) × (end : ScriptEnd) × Script all (text ++ rest) end

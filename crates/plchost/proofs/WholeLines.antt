@@ -9,7 +9,7 @@ use Rattle.conn_core.specs.States.{State}
 use Rattle.script_lines.specs.declared.commands.Command.{Command}
 use Rattle.script_lines.specs.declared.commands.Command.TheVariants.{Table, Calls}
 use Rattle.script_replay.proofs.LineByLine.{line_by_line}
-use Rattle.script_replay.specs.Replays.{Script, answer_text, reply_text}
+use Rattle.script_replay.specs.Replays.{Script, answer_text, command_text}
 use Rattle.script_replay.specs.declared.replays.ScriptEnd.{ScriptEnd}
 use Rattle.plchost.specs.Lines.{AreWholeLines}
 use Rattle.plchost.specs.Listing.{entries_of, fields_at, lines}
@@ -22,14 +22,14 @@ whole_append xs ys first second =
       | inr more ↦ inr (xs ++ more.0, ap (λ (zs : List ℕ). xs ++ zs) more.1 ∙ sym (append_assoc xs more.0 (codes "\n")))
     ]
 
-reply_whole : (at : Option (State RawWire)) (command : Command) → AreWholeLines (reply_text at command)
+reply_whole : (at : Option (State RawWire)) (command : Command) → AreWholeLines (command_text at command)
 reply_whole at (Table settings) = inl refl
 reply_whole (Some state) (Calls call) = inr (answer_text state call, refl)
 reply_whole None (Calls call) = inl refl
 
 -- one answer more
-pub one_more_whole : (text : List ℕ) (at : Option (State RawWire)) (command : Command) → AreWholeLines text → AreWholeLines (text ++ reply_text at command)
-one_more_whole text at command whole = whole_append text (reply_text at command) whole (reply_whole at command)
+pub one_more_whole : (text : List ℕ) (at : Option (State RawWire)) (command : Command) → AreWholeLines text → AreWholeLines (text ++ command_text at command)
+one_more_whole text at command whole = whole_append text (command_text at command) whole (reply_whole at command)
 
 -- each with its line feed
 fed_whole : (all : List (List ℕ)) → AreWholeLines (flat_map (λ answer. answer ++ codes "\n") all)

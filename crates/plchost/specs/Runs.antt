@@ -11,8 +11,9 @@ use Rattle.plchost.specs.declared.statuses.Status.{Status}
 use Rattle.mspec_tree.specs.declared.defs.Description.{Description}
 use Rattle.mspec_meaning.specs.Stream.{Ending, Stream}
 use Rattle.wire_frames.specs.declared.raw.RawWire.{RawWire}
-use Rattle.conn_core.specs.States.{State}
-use Rattle.script_replay.specs.Replays.{IsUnworn, Leads, Script}
+use Rattle.conn_core.specs.Journals.{Legal}
+use Rattle.conn_core.specs.States.{State, connection_of}
+use Rattle.script_replay.specs.Replays.{IsUnworn, Leads, Script, raw}
 use Rattle.script_replay.specs.declared.replays.ScriptEnd.{ScriptEnd}
 use Rattle.script_replay.specs.declared.replays.ScriptEnd.TheVariants.{Answered}
 use Rattle.plchost.specs.FirstForm.{FirstForm}
@@ -163,8 +164,7 @@ pub record WasDecoded (words : List (List ℕ)) (counts_with : List ℕ → List
   pub values : Stream d def [] (take input_limit taken) readings ending
   pub put_out : after.out.held ≡ after_taking (listings d def readings ++ (last_said (Some Ended) ending).text) before.out.held
 
--- The words are `replay`, and the input ended. All its lines were answered, and have led to a connection that is open, with a
--- legal journal below its limit.
+-- The words are `replay`, and the input ended. All its lines were answered, and have led to a connection with a legal journal.
 pub record WasReplayed (words : List (List ℕ)) (before after : Shown) : Type 0 where
   pub taken : List ℕ
   pub text : List ℕ
@@ -174,6 +174,8 @@ pub record WasReplayed (words : List (List ℕ)) (before after : Shown) : Type 0
   pub from_input : InputTaken before.input after.input taken (Some Ended)
   pub answered : Script (lines_of (Some Ended) (take input_limit taken)) text (Answered next (length state.journal))
   pub leads : Leads (record { next = 1; conn = None }) (lines_of (Some Ended) (take input_limit taken)) (record { next = next; conn = Some state })
+  pub legal : Legal (connection_of raw state.key) state.journal
+  -- In the first form of a script it is open and below its limit besides.
   pub unworn : IsUnworn next state
   -- The two lines stand that must.
   pub two : 2 < next

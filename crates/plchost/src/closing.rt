@@ -34,7 +34,8 @@ fn why_text(why: ValueWhy) -> &'static [u8]
 }
 
 fn refused_value_line(alloc: Global, bit: u64, why: ValueWhy) -> Result<Vec<u8>, AllocError>
-    ensures { IfOk result (λ line. line.items ≡ codes "value refused " ++ decimal bit ++ codes " " ++ why_text (why_of why) ++ codes "\n") }
+    ensures { IfOk result (λ line.
+        line.items ≡ codes "value refused " ++ decimal bit ++ codes " " ++ why_text (why_of why) ++ codes "\n") }
 {
     let mut buffer = Buffer::new();
     let mut line = Vec::from_slice(alloc, b"value refused ")?;
@@ -96,7 +97,9 @@ pub fn close(
 }
 
 fn refuse_line(alloc: Global, gathered: &mut Vec<u8>, line: u64) -> Result<Status, AllocError>
-    ensures closed { IfOk result (λ status. (gathered.new.items ≡ gathered.old.items ++ (refusal_of_line line).text) × (status ≡ Status.LineRefused)) }
+    ensures closed { IfOk result (λ status.
+        (gathered.new.items ≡ gathered.old.items ++ (refusal_of_line line).text)
+        × (status ≡ Status.LineRefused)) }
     ensures unchanged { IfErr result (λ _. gathered.new.items ≡ gathered.old.items) }
 {
     add_last(

@@ -39,9 +39,12 @@ pub fn read_file<F: Shelf>(alloc: Global, files: &mut F, name: &str) -> Result<V
         text.items ≡ take (1 + MAX_BYTES) bytes)) }
     ensures lacking { IsTrue ((F.seen files.old).lacks name.now) → result ≡ Err FileFault.Failed }
     ensures files { LeavesFiles (F.seen files.old) (F.seen files.new) }
-    ensures no_fault { result ≡ Err FileFault.Failed ⊎ ((other : List ℕ) → (F.seen files.new).faults other ≡ (F.seen files.old).faults other) }
-    ensures others { (other : List ℕ) → (F.counts_with name.now other → ⊥) → (F.seen files.new).faults other ≡ (F.seen files.old).faults other }
-    ensures fault { result ≡ Err FileFault.Failed → Rose ((F.seen files.old).faults name.now) ((F.seen files.new).faults name.now) }
+    ensures no_fault { result ≡ Err FileFault.Failed
+        ⊎ ((other : List ℕ) → (F.seen files.new).faults other ≡ (F.seen files.old).faults other) }
+    ensures others { (other : List ℕ) → (F.counts_with name.now other → ⊥)
+        → (F.seen files.new).faults other ≡ (F.seen files.old).faults other }
+    ensures fault { result ≡ Err FileFault.Failed
+        → Rose ((F.seen files.old).faults name.now) ((F.seen files.new).faults name.now) }
 {
     let mut text = Vec::new(alloc);
     let mut buffer = [0; PIECE];

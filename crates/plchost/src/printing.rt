@@ -30,7 +30,8 @@ pub fn put_all<K: Sink>(out: &mut K, bytes: &[u8]) -> Result<(), Failed>
 
 /// Puts what is gathered out once it is large.
 pub fn put_large<K: Sink>(out: &mut K, gathered: &mut Vec<u8>) -> Result<(), Failed>
-    ensures added { OnOk result (Adds (K.seen out.old).held (K.seen out.new).held gathered.old.items gathered.new.items []) }
+    ensures added { OnOk result
+        (Adds (K.seen out.old).held (K.seen out.new).held gathered.old.items gathered.new.items []) }
     ensures no_fault { OnOk result ((K.seen out.new).faults ≡ (K.seen out.old).faults) }
     ensures front { OnErr result (PutsFront (K.seen out.old).held (K.seen out.new).held gathered.old.items) }
     ensures fault { OnErr result (Rose (K.seen out.old).faults (K.seen out.new).faults) }

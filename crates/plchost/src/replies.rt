@@ -2,7 +2,7 @@ ghost use Rattle.std.specs.Prelude.{◌≡◌, ◌+◌, ◌⊎◌, ℕ, List, �
 ghost use Rattle.link_io.specs.Counts.{Rose};
 ghost use Rattle.script_lines.specs.Scripts.{IsLine};
 ghost use Rattle.script_lines.specs.declared.commands.Command.{Command};
-ghost use Rattle.script_replay.specs.Replays.{Script, after_line, reply_text};
+ghost use Rattle.script_replay.specs.Replays.{Script, after_line, command_text};
 ghost use Rattle.script_replay.specs.declared.replays.ScriptEnd.{ScriptEnd};
 ghost use Rattle.plchost.specs.Lines.{AreWholeLines, lines_in};
 ghost use Rattle.plchost.specs.Runs.{Adds, PutsFront};
@@ -31,7 +31,7 @@ fn put_answer<K: Sink>(
     line: &[u8],
 ) -> Result<LineOutcome, Cut>
     ensures answered { result ≡ Ok LineOutcome.Answered → (command : Command) × IsLine replay.old.next line.now command
-        × Adds (K.seen out.old).held (K.seen out.new).held gathered.old.items gathered.new.items (reply_text replay.old.conn command)
+        × Adds (K.seen out.old).held (K.seen out.new).held gathered.old.items gathered.new.items (command_text replay.old.conn command)
         × (replay.new ≡ after_line replay.old command) }
     ensures refused { result ≡ Ok LineOutcome.Refused → ((command : Command) → IsLine replay.old.next line.now command → ⊥)
         × ((K.seen out.new).held ≡ (K.seen out.old).held) × (gathered.new.items ≡ gathered.old.items) × (replay.new ≡ replay.old) }
@@ -39,7 +39,7 @@ fn put_answer<K: Sink>(
     ensures no_memory { result ≡ Err Cut.NoMemory →
         ((K.seen out.new).held ≡ (K.seen out.old).held) × (gathered.new.items ≡ gathered.old.items) }
     ensures cut { result ≡ Err Cut.WriteFault → (command : Command) × IsLine replay.old.next line.now command
-        × PutsFront (K.seen out.old).held (K.seen out.new).held (gathered.old.items ++ reply_text replay.old.conn command) }
+        × PutsFront (K.seen out.old).held (K.seen out.new).held (gathered.old.items ++ command_text replay.old.conn command) }
     ensures fault { result ≡ Err Cut.WriteFault → Rose (K.seen out.old).faults (K.seen out.new).faults }
 {
     match replay.take_line(line, gathered) {

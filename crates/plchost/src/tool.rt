@@ -25,13 +25,15 @@ use std::alloc::Global;
 
 /// By its words, and what it took, a run says one thing.
 pub fn one_said()
-    ensures { (words : List (List ℕ)) (t : Taken) (one other : Said) → Tool words t one → Tool words t other → one ≡ other }
+    ensures { (words : List (List ℕ)) (t : Taken) (one other : Said) → Tool words t one → Tool words t other
+        → one ≡ other }
 {}
 
 /// By its words, and what it took of an input that it left, a run says something. It says something too where it left the input
 /// alone, and its words, its file and the type in it lead to no script and to no values.
 pub fn some_said()
-    ensures left { (words : List (List ℕ)) (t : Taken) (left : How) → t.how ≡ Some left → (outcome : Said) × Tool words t outcome }
+    ensures left { (words : List (List ℕ)) (t : Taken) (left : How) → t.how ≡ Some left → (outcome : Said)
+        × Tool words t outcome }
     ensures alone { (words : List (List ℕ)) (t : Taken) → t.how ≡ None → (AreReplay words → ⊥)
         → ((file_name type_name text : List ℕ) (d : Description) (def : ℕ)
         → AreDecode words file_name type_name → t.file ≡ Some text → FirstForm text d → Names d def type_name → ⊥)

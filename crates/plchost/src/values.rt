@@ -53,7 +53,9 @@ fn put_value<K: Sink>(
     fields: &[Field],
     node: &Node,
 ) -> Result<(), Cut>
-    ensures added { OnOk result (Adds (K.seen out.old).held (K.seen out.new).held gathered.old.items gathered.new.items (listing fields.now node.now)) }
+    ensures added { OnOk result
+        (Adds (K.seen out.old).held (K.seen out.new).held gathered.old.items gathered.new.items
+        (listing fields.now node.now)) }
     ensures no_fault { result ≡ Err Cut.WriteFault ⊎ ((K.seen out.new).faults ≡ (K.seen out.old).faults) }
     ensures no_memory { result ≡ Err Cut.NoMemory →
         ((K.seen out.new).held ≡ (K.seen out.old).held) × (gathered.new.items ≡ gathered.old.items) }

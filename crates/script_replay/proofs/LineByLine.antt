@@ -33,7 +33,7 @@ use Rattle.script_lines.specs.declared.commands.Call.{Call}
 use Rattle.script_lines.specs.declared.commands.Call.TheVariants.{AskLease, Submit, TakeSend, Frame, Cancel, Collect}
 use Rattle.script_lines.specs.declared.commands.Command.{Command}
 use Rattle.script_lines.specs.declared.commands.Command.TheVariants.{Table as TableLine, Calls}
-use Rattle.script_replay.specs.Replays.{Replies, Script, actor_of, after_call, after_command, answer_text, answers_by, event_of, opened, raw, reply_text, stepped}
+use Rattle.script_replay.specs.Replays.{AreAnswered, Script, actor_of, after_call, after_command, answer_text, answers_by, event_of, opened, raw, command_text, stepped}
 use Rattle.script_replay.specs.declared.replays.ScriptEnd.{ScriptEnd}
 use Rattle.script_replay.specs.declared.replays.ScriptEnd.TheVariants.{Answered, Refused}
 use Rattle.script_replay.proofs.UnwornLaws.{call_place, call_plain}
@@ -157,7 +157,7 @@ record Stand (n : ℕ) (text : List ℕ) (end : ScriptEnd) : Type 0 where
 none_taken : (n : ℕ) (text : List ℕ) (end : ScriptEnd) → text ≡ [] → place_of end ≡ n → Stand n text end
 none_taken n text end empty place = record { all = []; lines = tt; joined = empty; count = omega (arith, place) }
 
-taken : (n : ℕ) (st : State RawWire) (line : List ℕ) (command : Command) (text rest : List ℕ) (end : ScriptEnd) → IsLegal st → 2 ≤ n → IsLine n line command → text ≡ reply_text (Some st) command ++ rest → Stand (n + 1) rest end → Stand n text end
+taken : (n : ℕ) (st : State RawWire) (line : List ℕ) (command : Command) (text rest : List ℕ) (end : ScriptEnd) → IsLegal st → 2 ≤ n → IsLine n line command → text ≡ command_text (Some st) command ++ rest → Stand (n + 1) rest end → Stand n text end
 taken n st line (TableLine s) text rest end legal two here is more = let first = here.1.0 in absurd (omega arith)
 taken n st line (Calls call) text rest end legal two here is more =
     record {
@@ -168,11 +168,11 @@ taken n st line (Calls call) text rest end legal two here is more =
     }
 
 -- behind the first line there is a connection, so what holds from any connection on holds behind the next line
-goes_on : (n : ℕ) (st : State RawWire) (line : List ℕ) (command : Command) (lines : List (List ℕ)) (rest : List ℕ) (end : ScriptEnd) → IsLegal st → 2 ≤ n → IsLine n line command → Replies (n + 1) (after_command (Some st) command) lines rest end → ((next : State RawWire) → IsLegal next → Replies (n + 1) (Some next) lines rest end → Stand (n + 1) rest end) → Stand (n + 1) rest end
+goes_on : (n : ℕ) (st : State RawWire) (line : List ℕ) (command : Command) (lines : List (List ℕ)) (rest : List ℕ) (end : ScriptEnd) → IsLegal st → 2 ≤ n → IsLine n line command → AreAnswered (n + 1) (after_command (Some st) command) lines rest end → ((next : State RawWire) → IsLegal next → AreAnswered (n + 1) (Some next) lines rest end → Stand (n + 1) rest end) → Stand (n + 1) rest end
 goes_on n st line (TableLine s) lines rest end legal two here more each = let first = here.1.0 in absurd (omega arith)
 goes_on n st line (Calls call) lines rest end legal two here more each = each (after_call st call) (call_legal st call legal) more
 
-behind : (n : ℕ) (st : State RawWire) (lines : List (List ℕ)) (text : List ℕ) (end : ScriptEnd) → IsLegal st → 2 ≤ n → Replies n (Some st) lines text end → Stand n text end
+behind : (n : ℕ) (st : State RawWire) (lines : List (List ℕ)) (text : List ℕ) (end : ScriptEnd) → IsLegal st → 2 ≤ n → AreAnswered n (Some st) lines text end → Stand n text end
 behind n st [] text end legal two h = none_taken n text end h.0 (ap place_of h.1)
 behind n st (line ∷ lines) text end legal two h =
     elim h [
@@ -196,7 +196,7 @@ told text end h = (h.all, h.lines, h.joined, omega (arith, h.count, answers_befo
 nothing_told : (n : ℕ) (text : List ℕ) (end : ScriptEnd) → n ≡ 1 → text ≡ [] → place_of end ≡ n → AreAnswers text end
 nothing_told n text end first empty place = ([], tt, empty, omega (arith, place, answers_before end))
 
-table_first : (line : List ℕ) (command : Command) (lines : List (List ℕ)) (text rest : List ℕ) (end : ScriptEnd) → IsLine 1 line command → text ≡ reply_text None command ++ rest → Replies 2 (after_command None command) lines rest end → AreAnswers text end
+table_first : (line : List ℕ) (command : Command) (lines : List (List ℕ)) (text rest : List ℕ) (end : ScriptEnd) → IsLine 1 line command → text ≡ command_text None command ++ rest → AreAnswered 2 (after_command None command) lines rest end → AreAnswers text end
 table_first line (TableLine s) lines text rest end here is more =
     let all = told rest end (behind 2 (opened s) lines rest end nothing_yet (omega arith) more) in (all.0, all.1, is ∙ all.2, all.3)
 table_first line (Calls call) lines text rest end here is more = let place = call_place 1 call here.1 in absurd (omega arith)

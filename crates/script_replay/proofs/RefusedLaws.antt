@@ -5,7 +5,7 @@ use Rattle.wire_frames.specs.declared.raw.RawWire.{RawWire}
 use Rattle.conn_core.specs.States.{State}
 use Rattle.script_lines.specs.Scripts.{IsLine}
 use Rattle.script_lines.specs.declared.commands.Command.{Command}
-use Rattle.script_replay.specs.Replays.{Replies, Script, after_command, entries}
+use Rattle.script_replay.specs.Replays.{AreAnswered, Script, after_command, entries}
 use Rattle.script_replay.specs.declared.replays.ScriptEnd.{ScriptEnd}
 use Rattle.script_replay.specs.declared.replays.ScriptEnd.TheVariants.{Answered, Refused}
 
@@ -17,9 +17,9 @@ record StopsBehind (n : ℕ) (conn : Option (State RawWire)) (lines : List (List
   number : m ≡ n + behind
   stands : slice_get lines behind ≡ Some line
   none : (command : Command) → IsLine m line command → ⊥
-  answered : Replies n conn (take behind lines) text (Answered m count)
+  answered : AreAnswered n conn (take behind lines) text (Answered m count)
 
-stops : (n : ℕ) (conn : Option (State RawWire)) (lines : List (List ℕ)) (text : List ℕ) (end : ScriptEnd) (m : ℕ) → end ≡ Refused m → Replies n conn lines text end → StopsBehind n conn lines text m
+stops : (n : ℕ) (conn : Option (State RawWire)) (lines : List (List ℕ)) (text : List ℕ) (end : ScriptEnd) (m : ℕ) → end ≡ Refused m → AreAnswered n conn lines text end → StopsBehind n conn lines text m
 stops n conn [] text end m is h =
     let both : ◌≡◌ {A = ScriptEnd} (Answered n (entries conn)) (Refused m) = sym h.1 ∙ is in absurd (cc)
 stops n conn (line ∷ lines) text end m is h =

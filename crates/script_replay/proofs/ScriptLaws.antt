@@ -8,7 +8,7 @@ use Rattle.script_lines.specs.declared.commands.Call.TheVariants.{AskLease, Subm
 use Rattle.script_lines.specs.declared.commands.Command.{Command}
 use Rattle.script_lines.specs.declared.commands.Command.TheVariants.{Table, Calls}
 use Rattle.script_lines.proofs.LineLaws.{same_command}
-use Rattle.script_replay.specs.Replays.{IsUnworn, Leads, Position, Replies, after_command, entries, reply_text}
+use Rattle.script_replay.specs.Replays.{IsUnworn, Leads, Position, AreAnswered, after_command, entries, command_text}
 use Rattle.script_replay.specs.Timed.{HasTimeout, IsInRanges}
 use Rattle.script_replay.specs.declared.replays.ScriptEnd.{ScriptEnd}
 use Rattle.script_replay.specs.declared.replays.ScriptEnd.TheVariants.{Answered, Refused}
@@ -18,7 +18,7 @@ abbrev pub AreSame : (text other : List ℕ) (end last : ScriptEnd) → Type 0
 AreSame text other end last = (text ≡ other) × (end ≡ last)
 
 -- two runs from one place on
-pub same_replies : (n : ℕ) (conn : Option (State RawWire)) (lines : List (List ℕ)) (text other : List ℕ) (end last : ScriptEnd) → Replies n conn lines text end → Replies n conn lines other last → AreSame text other end last
+pub same_replies : (n : ℕ) (conn : Option (State RawWire)) (lines : List (List ℕ)) (text other : List ℕ) (end last : ScriptEnd) → AreAnswered n conn lines text end → AreAnswered n conn lines other last → AreSame text other end last
 same_replies n conn [] text other end last h k = (h.0 ∙ sym k.0, h.1 ∙ sym k.1)
 same_replies n conn (line ∷ lines) text other end last h k =
     elim h [
@@ -26,9 +26,9 @@ same_replies n conn (line ∷ lines) text other end last h k =
           elim k [
             | inl there ↦
                 let same : there.0 ≡ here.0 = same_command n line there.0 here.0 there.2 here.2 in
-                let goes : Replies (n + 1) (after_command conn here.0) lines there.1 last = subst (λ (command : Command). Replies (n + 1) (after_command conn command) lines there.1 last) same there.4 in
+                let goes : AreAnswered (n + 1) (after_command conn here.0) lines there.1 last = subst (λ (command : Command). AreAnswered (n + 1) (after_command conn command) lines there.1 last) same there.4 in
                 let rest = same_replies (n + 1) (after_command conn here.0) lines here.1 there.1 end last here.4 goes in
-                (here.3 ∙ ap (λ more. reply_text conn here.0 ++ more) rest.0 ∙ ap (λ command. reply_text conn command ++ there.1) (sym same) ∙ sym there.3, rest.1)
+                (here.3 ∙ ap (λ more. command_text conn here.0 ++ more) rest.0 ∙ ap (λ command. command_text conn command ++ there.1) (sym same) ∙ sym there.3, rest.1)
             | inr none ↦ absurd (none.0 here.0 here.2)
           ]
       | inr none ↦
@@ -55,7 +55,7 @@ abbrev pub HasCome : Position → List (List ℕ) → ℕ → ℕ → Type 0
 HasCome here lines next count =
     (conn : Option (State RawWire)) × IsSound next conn × (count ≡ entries conn) × Leads here lines (record { next = next; conn = conn })
 
-come : (n : ℕ) (conn : Option (State RawWire)) (lines : List (List ℕ)) (text : List ℕ) (end : ScriptEnd) (next count : ℕ) → end ≡ Answered next count → IsSound n conn → Replies n conn lines text end → HasCome (record { next = n; conn = conn }) lines next count
+come : (n : ℕ) (conn : Option (State RawWire)) (lines : List (List ℕ)) (text : List ℕ) (end : ScriptEnd) (next count : ℕ) → end ≡ Answered next count → IsSound n conn → AreAnswered n conn lines text end → HasCome (record { next = n; conn = conn }) lines next count
 come n conn [] text end next count is sound h =
     let both : ◌≡◌ {A = ScriptEnd} (Answered n (entries conn)) (Answered next count) = sym h.1 ∙ is in
     let place : n ≡ next = cc in
@@ -79,6 +79,6 @@ behind : (lines : List (List ℕ)) (next count : ℕ) (conn : Option (State RawW
 behind lines next count (Some state) far sound is leads = (state, sound, is, leads)
 behind lines next count None far sound is leads = absurd (omega arith)
 
-pub open_end : (lines : List (List ℕ)) (text : List ℕ) (next count : ℕ) → Replies 1 None lines text (Answered next count) → 2 ≤ next → IsOpenAt lines next count
+pub open_end : (lines : List (List ℕ)) (text : List ℕ) (next count : ℕ) → AreAnswered 1 None lines text (Answered next count) → 2 ≤ next → IsOpenAt lines next count
 open_end lines text next count h far =
     let some = come 1 None lines text (Answered next count) next count refl refl h in behind lines next count some.0 far some.1 some.2 some.3

@@ -85,10 +85,10 @@ after_command (Some st) (Calls call) = Some (after_call st call)
 after_command None (Calls call) = None
 
 -- A line for each answer. No script has the last case, so it has no text: a call stands behind the table alone.
-abbrev pub reply_text : Option (State RawWire) → Command → List ℕ
-reply_text conn (TableLine s) = []
-reply_text (Some st) (Calls call) = answer_text st call ++ codes "\n"
-reply_text None (Calls call) = []
+abbrev pub command_text : Option (State RawWire) → Command → List ℕ
+command_text conn (TableLine s) = []
+command_text (Some st) (Calls call) = answer_text st call ++ codes "\n"
+command_text None (Calls call) = []
 
 -- where a script is: the number of its next line, and the connection, once there is one
 pub record Position : Type 0 where
@@ -121,15 +121,15 @@ pub record IsUnworn (next : ℕ) (st : State RawWire) : Type 0 where
   pub unclosed : (table_in raw st).closed ≡ None
 
 -- From the line with this number on, these lines are answered by this text, up to the first that is refused.
-abbrev pub Replies : (n : ℕ) → Option (State RawWire) → List (List ℕ) → (text : List ℕ) → ScriptEnd → Type 0
-Replies n conn [] text end = (text ≡ []) × (end ≡ Answered n (entries conn))
-Replies n conn (line ∷ lines) text end =
-    ((command : Command) × (rest : List ℕ) × IsLine n line command × (text ≡ reply_text conn command ++ rest) × Replies (n + 1) (after_command conn command) lines rest end)
+abbrev pub AreAnswered : (n : ℕ) → Option (State RawWire) → List (List ℕ) → (text : List ℕ) → ScriptEnd → Type 0
+AreAnswered n conn [] text end = (text ≡ []) × (end ≡ Answered n (entries conn))
+AreAnswered n conn (line ∷ lines) text end =
+    ((command : Command) × (rest : List ℕ) × IsLine n line command × (text ≡ command_text conn command ++ rest) × AreAnswered (n + 1) (after_command conn command) lines rest end)
     ⊎ (((command : Command) → IsLine n line command → ⊥) × (text ≡ []) × (end ≡ Refused n))
 
 -- a script, from its first line on
 abbrev pub Script : List (List ℕ) → (text : List ℕ) → ScriptEnd → Type 0
-Script lines text end = Replies 1 None lines text end
+Script lines text end = AreAnswered 1 None lines text end
 
 -- how many answers a script has, by how its lines end: one for each line that was taken but the first
 abbrev pub answers_by : ScriptEnd → ℕ

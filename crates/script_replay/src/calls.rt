@@ -5,7 +5,7 @@ ghost use Rattle.conn_core.specs.Journals.{timeout_limit};
 ghost use Rattle.conn_core.specs.States.{state_after, table_in};
 ghost use Rattle.conn_core.specs.Steps.{answer_of, apply_frame, ask_lease, cancel, collect, take_send};
 ghost use Rattle.conn_core.specs.declared.entries.Event.TheVariants as events;
-ghost use Rattle.script_replay.specs.Replays.{after_call, after_command, answer_text, raw, reply_text, submit_text};
+ghost use Rattle.script_replay.specs.Replays.{after_call, after_command, answer_text, raw, command_text, submit_text};
 ghost use Rattle.script_replay.specs.ReplyTexts.{spelled, spelled_line};
 ghost use Rattle.script_replay.specs.Timed.{HasTimeout, IsInRanges};
 ghost use Rattle.script_lines.specs.declared.commands.Call.TheVariants as calls;
@@ -122,7 +122,7 @@ pub(crate) fn run_command(
 ) -> Result<Option<Reply>, AllocError>
     requires { IsInRanges command }
     ensures { MatchResult result
-        (λ reply. (spelled_line reply ≡ reply_text conn.old command) × (conn.new ≡ after_command conn.old command))
+        (λ reply. (spelled_line reply ≡ command_text conn.old command) × (conn.new ≡ after_command conn.old command))
         (λ _. conn.new ≡ conn.old) }
 {
     match command {

@@ -22,7 +22,7 @@ pub fn some_script()
     ensures { (lines : List (List ℕ)) → (text : List ℕ) × (end : ScriptEnd) × Script lines text end }
 {}
 
-/// A script's text has one line for each line that was taken but the first, of words that stand apart by one blank.
+/// A script's text has one line for each line that was taken but the first, of words that stand apart by one space.
 pub fn answered_line_by_line()
     ensures { (lines : List (List ℕ)) (text : List ℕ) (end : ScriptEnd) → Script lines text end
         → (answers : List (List ℕ)) × AllByRecursion IsWordLine answers

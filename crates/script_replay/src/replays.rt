@@ -1,7 +1,7 @@
 ghost use Rattle.std.specs.Prelude.{◌≡◌, ◌⊎◌, ◌++◌, None, Err, OnOk, MatchOption, MatchResult};
 ghost use Rattle.script_lines.specs.Scripts.{IsAt, IsLine};
 ghost use Rattle.script_lines.specs.declared.commands.Command.{Command};
-ghost use Rattle.script_replay.specs.Replays.{IsUnworn, after_line, entries, reply_text};
+ghost use Rattle.script_replay.specs.Replays.{IsUnworn, after_line, entries, command_text};
 ghost use Rattle.script_replay.specs.ReplyTexts.{spelled_line};
 ghost use Rattle.script_replay.specs.Timed.{IsInRanges};
 
@@ -77,7 +77,7 @@ impl Replay {
     /// answer is missing from the text.
     pub fn take_line(&mut self, line: &[u8], text: &mut Vec<u8>) -> Result<(), LineFault>
         ensures answered { OnOk result ((command : Command) × IsLine self.old.next line.now command
-            × (text.new.items ≡ text.old.items ++ reply_text self.old.conn command)
+            × (text.new.items ≡ text.old.items ++ command_text self.old.conn command)
             × (self.new ≡ after_line self.old command)) }
         ensures refused { result ≡ Err LineFault.Refused → ((command : Command) → IsLine self.old.next line.now command → ⊥)
             × (text.new.items ≡ text.old.items) × (self.new ≡ self.old) }
@@ -95,7 +95,7 @@ impl Replay {
         requires ranges { IsInRanges command }
         requires place { IsAt self.old.next command }
         ensures { MatchResult result
-            (λ reply. (spelled_line reply ≡ reply_text self.old.conn command) × (self.new ≡ after_line self.old command))
+            (λ reply. (spelled_line reply ≡ command_text self.old.conn command) × (self.new ≡ after_line self.old command))
             (λ _. self.new ≡ self.old) }
     {
         let reply = run_command(self.alloc, &mut self.conn, command)?;

@@ -66,12 +66,12 @@ fn spells_a_raw_ask(rt: HostRuntime) -> Result<(), Fail> {
     let ask = Ask::Raw(bytes(alloc, &[0xaa])?);
     assert_eq!(rt; RawWire.limit(), 4096);
     assert_eq!(rt; RawWire.rule(), LengthRule::Raw);
-    assert_eq!(rt; RawWire.admits(&ask), true);
+    assert!(rt; RawWire.admits(&ask));
     let longest = Ask::Raw(OwnedList::from_vec(vec![in alloc; 0; 4092]?));
-    assert_eq!(rt; RawWire.admits(&longest), true);
+    assert!(rt; RawWire.admits(&longest));
     let longer = Ask::Raw(OwnedList::from_vec(vec![in alloc; 0; 4093]?));
-    assert_eq!(rt; RawWire.admits(&longer), false);
-    assert_eq!(rt; RawWire.admits(&Ask::Read(OwnedList::new(alloc))), false);
+    assert!(rt; !RawWire.admits(&longer));
+    assert!(rt; !RawWire.admits(&Ask::Read(OwnedList::new(alloc))));
     Ok(())
 }
 
@@ -188,15 +188,15 @@ fn copies_an_ask(rt: HostRuntime) -> Result<(), Fail> {
 #[test]
 fn whole_raw_frames_state_their_length(rt: HostRuntime) -> Result<(), Fail> {
     let alloc = rt.alloc();
-    assert_eq!(rt; RawWire::is_whole(&[0, 4, 0, 0]), true);
-    assert_eq!(rt; RawWire::is_whole(&[0, 3, 0]), false);
-    assert_eq!(rt; RawWire::is_whole(&[0, 5, 0, 0]), false);
-    assert_eq!(rt; RawWire::is_whole(&[0, 3, 0, 0]), false);
+    assert!(rt; RawWire::is_whole(&[0, 4, 0, 0]));
+    assert!(rt; !RawWire::is_whole(&[0, 3, 0]));
+    assert!(rt; !RawWire::is_whole(&[0, 5, 0, 0]));
+    assert!(rt; !RawWire::is_whole(&[0, 3, 0, 0]));
     let mut longest = vec![in alloc; 0; 4096]?;
     longest[0] = 16;
-    assert_eq!(rt; RawWire::is_whole(&longest), true);
+    assert!(rt; RawWire::is_whole(&longest));
     longest.push(0)?;
     longest[1] = 1;
-    assert_eq!(rt; RawWire::is_whole(&longest), false);
+    assert!(rt; !RawWire::is_whole(&longest));
     Ok(())
 }

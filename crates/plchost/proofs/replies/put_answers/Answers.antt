@@ -1,6 +1,6 @@
 use Rattle.std.proofs.Common.{◌≡◌, ℕ, [], ◌++◌, inl, inr, refl, ap, sym, ◌∙◌, subst}
 use Rattle.std.proofs.lemmas.Result.{err_from_is_err_and}
-use Rattle.script_replay.specs.Replays.{Position, Script, after_command, entries, reply_text}
+use Rattle.script_replay.specs.Replays.{Position, Script, after_command, entries, command_text}
 use Rattle.script_replay.specs.declared.replays.ScriptEnd.{ScriptEnd}
 use Rattle.script_replay.specs.declared.replays.ScriptEnd.TheVariants.{Answered, Refused}
 use Rattle.plchost.specs.Lines.{lines_in}
@@ -48,12 +48,12 @@ returns-in_err-put_answer-clause-cut g c =
     λ (e : _).
     let cut = c.in_err-put_answer.ensures.cut (cc) in
     let goes = one_more_answer all n at c.in-Some.line.now (lines_in c.args.ended c.loop-line.rest.now) left inv.0 cut.0 c.in-Some.ensures.line cut.1 inv.3 in
-    let some = some_answers all _ (after_command at cut.0) left (inv.0 ++ reply_text at cut.0) goes in (
-      inv.0 ++ reply_text at cut.0,
+    let some = some_answers all _ (after_command at cut.0) left (inv.0 ++ command_text at cut.0) goes in (
+      inv.0 ++ command_text at cut.0,
       some.0,
       some.1,
       some.2,
-      PutsFront-after (g.K.Sink.seen c.args.out.now).held (g.K.Sink.seen c.loop-line.out).held (g.K.Sink.seen c.put_answer.new.out).held c.args.gathered.now.items c.loop-line.gathered.items inv.0 (reply_text at cut.0) inv.1 cut.2,
+      PutsFront-after (g.K.Sink.seen c.args.out.now).held (g.K.Sink.seen c.loop-line.out).held (g.K.Sink.seen c.put_answer.new.out).held c.args.gathered.now.items c.loop-line.gathered.items inv.0 (command_text at cut.0) inv.1 cut.2,
     )
 
 pub returns-in-Refused-clause-answers : goal.returns-in-Refused-clause-answers
@@ -79,9 +79,9 @@ loop-line-preserved g c =
     let left = lines_in c.args.ended c.in-Some.more.now in
     let answered = c.in_ok-put_answer.ensures.answered (cc) in
     let goes = one_more_answer all n at c.in-Some.line.now (lines_in c.args.ended c.loop-line.rest.now) left inv.0 answered.0 c.in-Some.ensures.line answered.1 inv.3 in
-    let text = inv.0 ++ reply_text at answered.0 in (
+    let text = inv.0 ++ command_text at answered.0 in (
       text,
-      Adds-more (g.K.Sink.seen c.args.out.now).held (g.K.Sink.seen c.loop-line.out).held (g.K.Sink.seen c.put_answer.new.out).held c.args.gathered.now.items c.loop-line.gathered.items c.put_answer.new.gathered.items inv.0 (reply_text at answered.0) inv.1 answered.2,
+      Adds-more (g.K.Sink.seen c.args.out.now).held (g.K.Sink.seen c.loop-line.out).held (g.K.Sink.seen c.put_answer.new.out).held c.args.gathered.now.items c.loop-line.gathered.items c.put_answer.new.gathered.items inv.0 (command_text at answered.0) inv.1 answered.2,
       elim c.in_ok-put_answer.ensures.no_fault [ inl bad ↦ absurd cc | inr same ↦ same ∙ inv.2 ],
       subst (λ (p : Position). GoesOn all p.next p.conn left text) (sym answered.3) goes,
       one_more_whole inv.0 at answered.0 inv.4,
