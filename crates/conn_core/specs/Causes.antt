@@ -1,4 +1,4 @@
--- Why calls are refused, by what they find.
+-- Why calls are refused, or a lease is waited for, by what they find.
 use Rattle.std.specs.Prelude.{◌≡◌, ◌≢◌, ◌⊎◌, ℕ, ◌<◌, false, [], Some, None, Err, count_by, length}
 use Rattle.std.specs.List.{find}
 use Rattle.node_tree.specs.declared.faults.WriteWhy.{WriteWhy}

@@ -54,7 +54,7 @@ pub record EntryLaw (c : Connection) (journal : List Entry) : Type 0 where
   pub frame_number : (k actor : ℕ) (bytes : List ℕ) (index : ℕ) (why : FrameWhy)
       → Stands journal k actor (events.Frame bytes) (answers.Undecodable index why)
       → index ≡ frames_in (take k journal)
-  -- An actor that waits has as many waiters before it as its place says.
+  -- A lease that is waited for has as many before it as its place says.
   pub waiting_place : (k actor now lease place : ℕ)
       → Stands journal k actor (events.AskLease now) (answers.Waiting lease place)
       → place ≡ length (leases_from c.settings no_leases (take k journal)).waiting

@@ -31,7 +31,9 @@ pub record IsFitted (c : Connection) (journal : List Entry) (id : ℕ) (r : Subm
   pub sent_at : SentAt journal id sent
   pub after : sent < place
 
--- no reply ended the request: what stands at a place behind its own did, and only its actor cancels it
+-- No reply ended the request: at some place behind its own stands what ends a request without one, in this way, and only its
+-- actor cancels it. That it is the first such place isn't said yet. In a legal journal the request was cancelled or lost, since so
+-- far no step ticks or takes a lease.
 pub record IsUnanswered (c : Connection) (journal : List Entry) (id : ℕ) (r : Submitted journal id) (kind : EndKind) : Type 0 where
   pub place : ℕ
   pub behind : r.place < place
@@ -63,7 +65,7 @@ pub record IsRowOf (c : Connection) (journal : List Entry) (row : Row) : Type 0 
   -- Its frame is that of its ask under its reference, and the ask's size is within the wire's limit.
   pub framed : c.wire.frame_of request.ask request.reference ≡ Ok request.frame
   pub within : c.wire.size request.ask ≤ c.wire.limit
-  -- So is what became of it.
+  -- What became of it is what the row's phase says.
   pub phase : IsPhaseOf c request row.phase
 
 -- in a closed table each row has ended

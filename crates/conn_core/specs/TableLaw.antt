@@ -23,7 +23,7 @@ ClosesWith journal reason = (k : ℕ) × (e : Entry) × (slice_get journal k ≡
 abbrev pub NoneCloses : List Entry → Type 0
 NoneCloses journal = (k : ℕ) (e : Entry) → slice_get journal k ≡ Some e → closing_reason e ≡ None
 
--- No list of a table is longer than it may be, and no more rows than the window has are sent and live.
+-- A table keeps no more rows, waiters and held leases than it may, and no more rows are sent and live than the window has.
 pub record IsBounded (s : Settings) (t : Table) : Type 0 where
   pub rows : length t.rows ≤ rows_limit
   pub waiting : length t.waiting ≤ waiters_limit

@@ -69,13 +69,13 @@ pub enum SendRefusal {
 /// What a frame that came did.
 #[derive(Clone, Copy, Debug, PartialEq, Eq)]
 pub enum FrameAnswer {
-    /// It ended this request, so.
+    /// It ended the request with this id, in this way.
     Ended { id: u64, kind: EndKind },
     /// It came for a request that ended before: its reference is free again.
     Late { reference: u16 },
     /// No answer is awaited under its reference.
     Stray { reference: u16 },
-    /// It can't be read, and closed the connection. `index` is its number among the frames that came, from 0.
+    /// It can't be read, and closed the connection. `index` is its number among the frames that were taken, from 0.
     Undecodable { index: u64, why: FrameWhy },
 }
 
@@ -90,7 +90,7 @@ pub enum FrameRefusal {
 /// Why a request wasn't cancelled.
 #[derive(Clone, Copy, Debug, PartialEq, Eq)]
 pub enum CancelRefusal {
-    /// It ended before, so.
+    /// It has ended already, in this way.
     AlreadyEnded(EndKind),
     /// The actor has no row with the id.
     NoRequest,

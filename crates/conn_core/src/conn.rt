@@ -87,8 +87,8 @@ impl<W: Wire> ConnState<W> {
     /// milliseconds. The wire must admit the ask, as `admits` tells.
     ///
     /// Refused, in this order: `NoMemory`; `Closed`; `NoLease`, where the actor doesn't hold the lease; `TableFull`, where 1,024
-    /// rows are kept; `Unwritable`, where the wire has no frame for the ask; `TooLarge`, where its size passes the wire's limit;
-    /// `NoReference`, where no reference is free.
+    /// rows are kept; `Unwritable`, where the wire has no frame for the ask under the first free reference, or 1 where none is;
+    /// `TooLarge`, where its size passes the wire's limit; `NoReference`, where no reference is free.
     pub fn submit(
         &mut self,
         actor: u32,

@@ -9,7 +9,8 @@ ghost use Rattle.conn_core.specs.Tables.{Connection, Table};
 ghost use Rattle.conn_core.specs.declared.entries.Entry.{Entry};
 
 /// The table after a legal journal has the clock, the leases, the close, the counts and the rows that the journal's places tell,
-/// by the settings of its connection, and no list of it is longer than it may be.
+/// by the settings of its connection. It keeps no more rows, waiters and held leases than it may, and no more rows are sent and
+/// live than the window has.
 pub fn table_by_places()
     ensures { (c : Connection) (journal : List Entry) → Legal c journal → TableLaw c journal }
 {}
@@ -22,8 +23,8 @@ pub fn entries_by_places()
 {}
 
 /// What a legal journal's table hands out is what the journal says: a sending is a request that it accepted, in the frame of its
-/// ask, and an outcome is that of the actor's request, by a reply that came after its sending, or by the cancellation or the close
-/// that ended it.
+/// ask, and an outcome is that of the actor's request, by a reply that came after its sending, or by a cancellation or a close that
+/// stands behind its acceptance.
 pub fn handed_out_by_places()
     ensures sent { (c : Connection) (journal : List Entry) → Legal c journal
         → IfOk (answer_of (take_send c.settings (table_of c journal))) (IsSending c journal) }

@@ -34,7 +34,7 @@ LeftSo None before after taken =
 
 -- What was taken of the file of this name: nothing, and its count rose, or its bytes as the shelf tells them, and no count
 -- changed. Where the shelf tells that there is no such file it is nothing. A run that ran out of memory may not have read all of
--- these bytes.
+-- these bytes, nor one whose file is longer than a description may be.
 abbrev pub FileSeen : (name : List ℕ) → (before after : ShelfSeen) → Option (List ℕ) → Type 0
 FileSeen name before after None = Rose (before.faults name) (after.faults name)
 FileSeen name before after (Some text) =

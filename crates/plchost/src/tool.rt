@@ -158,9 +158,9 @@ pub fn tool_main<F: Shelf, S: Source, K: Sink>(
         × AreDecode words.now file_name type_name
         × FileSeen file_name (F.seen files.old) (F.seen files.new) (Some text)
         × FirstForm text d × ((def : ℕ) → Names d def type_name → ⊥) }
-    // The file failed only where its count rose. It fails where its count rose, or where the shelf tells that there is none, which
-    // leaves the input alone. No count changes but those of names that the shelf counts together with it, and with all other words
-    // none at all.
+    // A file fault comes only where FILE's count rose. It comes, unless memory or the output gives out, where that count rose or
+    // the shelf tells that there is no FILE, and then the input is left alone. No count changes but those of names that the shelf
+    // counts together with FILE, and with words other than `decode`'s none.
     ensures file_fault { result ≡ 3 → (file_name type_name : List ℕ) × AreDecode words.now file_name type_name
         × Rose ((F.seen files.old).faults file_name) ((F.seen files.new).faults file_name) }
     ensures file_failed { (file_name type_name : List ℕ) → AreDecode words.now file_name type_name
