@@ -24,6 +24,8 @@ mod tool;
 mod values;
 mod words;
 
+ghost use Rattle.std.specs.Prelude.{◌≡◌, [], Ok, IfOk, IfErr};
+
 use faults::Cut;
 use link_io::{FileShelf, StdSink, StdSource, StringList};
 use std::alloc::{AllocError, Global};
@@ -43,7 +45,10 @@ fn read_words(rt: &(impl Env + AllocGlobal)) -> io::Result<StringList> {
 }
 
 /// The words that were read, or none, which no command has, where one of them isn't text. An `Err` is want of memory.
-fn known_words(alloc: Global, read: io::Result<StringList>) -> Result<StringList, AllocError> {
+fn known_words(alloc: Global, read: io::Result<StringList>) -> Result<StringList, AllocError>
+    ensures kept { IfOk read (λ words. result ≡ Ok words) }
+    ensures none { IfErr read (λ _. IfOk result (λ words. words ≡ [])) }
+{
     match read {
         Ok(words) => Ok(words),
         Err(error) if matches!(error.kind(), ErrorKind::OutOfMemory) => Err(AllocError),
