@@ -4,7 +4,6 @@ ghost use Rattle.conn_core.specs.Rooms.{lists_of};
 ghost use Rattle.conn_core.specs.Steps.{answer_of, ask_lease, table_or};
 
 use crate::answers::{AskRefusal, LeaseAnswer};
-use crate::lists::add;
 use crate::rows::Lease;
 use crate::settings::Settings;
 use crate::tables::{KeptTable, MAX_WAITERS, find_deadline};
@@ -36,25 +35,19 @@ pub(crate) fn ask(
     let lease = table.leases_drawn;
     if table.held.len() < usize::from(settings.share) && table.waiting.is_empty() {
         let deadline = find_deadline(table.clock, settings.lease_ms);
-        add(
-            &mut table.held,
-            Lease {
-                number: lease,
-                actor,
-                deadline,
-            },
-        );
+        table.held.push_reserved(Lease {
+            number: lease,
+            actor,
+            deadline,
+        });
         return Ok(LeaseAnswer::Granted { lease });
     }
     let place = table.waiting.len() as u8;
     let deadline = find_deadline(table.clock, settings.wait_ms);
-    add(
-        &mut table.waiting,
-        Lease {
-            number: lease,
-            actor,
-            deadline,
-        },
-    );
+    table.waiting.push_reserved(Lease {
+        number: lease,
+        actor,
+        deadline,
+    });
     Ok(LeaseAnswer::Waiting { lease, place })
 }

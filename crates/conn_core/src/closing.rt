@@ -6,7 +6,6 @@ ghost use Rattle.conn_core.specs.Steps.{closed_by};
 ghost use Rattle.conn_core.specs.Tables.{is_queued, is_sent, lost_row, references_of};
 
 use crate::ends::make_lost;
-use crate::lists::{add, add_back};
 use crate::rows::{Phase, Row};
 use crate::tables::KeptTable;
 use std::alloc::Global;
@@ -33,11 +32,11 @@ fn lose_row(
 {
     match &row.phase {
         Phase::Queued(_) => {
-            add_back(free, row.reference);
+            free.push_back_reserved(row.reference);
             row.phase = Phase::Ended(make_lost(alloc, reason));
         }
         Phase::Sent => {
-            add(quarantined, row.reference);
+            quarantined.push_reserved(row.reference);
             row.phase = Phase::Ended(make_lost(alloc, reason));
         }
         Phase::Ended(_) => {}

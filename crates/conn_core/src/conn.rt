@@ -46,8 +46,8 @@ impl<W: Wire> Model for ConnState<W> {
 }
 
 impl<W: Wire> ConnState<W> {
-    /// An open connection to which nothing has happened. The settings must lie in their ranges (`Settings`). An `Err` is want of
-    /// memory: the room for all references and for the close is taken here.
+    /// An open connection to which nothing has happened. The settings must lie in their ranges, as `Settings::are_in_range` tells.
+    /// An `Err` is want of memory: the room for all references and for the close is taken here.
     pub fn new(alloc: Global, wire: W, settings: Settings) -> Result<ConnState<W>, AllocError>
         requires { IsSettings settings }
         ensures key { IfOk result (λ state. state.key ≡ record { wire = wire; settings = settings }) }
@@ -213,6 +213,7 @@ impl<W: Wire> ConnState<W> {
     /// All that happened, in order: below its limit while nothing has closed the connection, and at most 1,025 entries past it.
     pub fn journal(&self) -> &[Entry]
         ensures journal { result.now ≡ self.now.journal }
+        ensures settings { IsSettings self.now.key.settings }
         ensures legal { Legal (connection_of W.meaning self.now.key) self.now.journal }
         ensures by_places { TableLaw (connection_of W.meaning self.now.key) self.now.journal }
         ensures within { length self.now.journal ≤ self.now.key.settings.journal + 1025 }
@@ -228,6 +229,7 @@ impl<W: Wire> ConnState<W> {
     /// The journal by itself.
     pub fn into_journal(self) -> EntryList
         ensures journal { result ≡ self.journal }
+        ensures settings { IsSettings self.key.settings }
         ensures legal { Legal (connection_of W.meaning self.key) self.journal }
         ensures by_places { TableLaw (connection_of W.meaning self.key) self.journal }
         ensures within { length self.journal ≤ self.key.settings.journal + 1025 }

@@ -7,7 +7,6 @@ ghost use Rattle.conn_core.specs.declared.rows.Phase.TheVariants.{Ended};
 use crate::answers::{CancelRefusal, TakeRefusal};
 use crate::ends::make_cancelled;
 use crate::finding::place_of;
-use crate::lists::{add, add_back};
 use crate::rows::{Phase, Row};
 use crate::tables::KeptTable;
 use wire_frames::Outcome;
@@ -28,12 +27,12 @@ pub(crate) fn cancel_row(table: &mut KeptTable, actor: u32, id: u64) -> Result<(
     match &row.phase {
         Phase::Queued(_) => {
             row.phase = Phase::Ended(make_cancelled(table.alloc));
-            add_back(&mut table.free, reference);
+            table.free.push_back_reserved(reference);
             Ok(())
         }
         Phase::Sent => {
             row.phase = Phase::Ended(make_cancelled(table.alloc));
-            add(&mut table.quarantined, reference);
+            table.quarantined.push_reserved(reference);
             Ok(())
         }
         Phase::Ended(outcome) => Err(CancelRefusal::AlreadyEnded(outcome.kind)),

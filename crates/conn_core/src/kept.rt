@@ -8,7 +8,6 @@ ghost use Rattle.conn_core.specs.Tables.{IsSettings, is_open, opening};
 
 use crate::closing::close;
 use crate::entries::{Answer, Entry, Event};
-use crate::lists::{add, add_back};
 use crate::settings::Settings;
 use crate::tables::KeptTable;
 use std::alloc::{AllocError, Global};
@@ -64,10 +63,10 @@ pub(crate) fn record(
 {
     let actor = entry.actor;
     let full = wears(table, settings, journal.len() + 1);
-    add(journal, entry);
+    journal.push_reserved(entry);
     if full {
         close(table, Reason::Worn);
-        add(journal, make_worn(actor));
+        journal.push_reserved(make_worn(actor));
     }
 }
 
@@ -104,7 +103,7 @@ fn first_references(alloc: Global, count: u16) -> Result<VecDeque<u16>, AllocErr
 {
     let mut free = VecDeque::with_capacity(alloc, usize::from(count))?;
     for reference in 0..count {
-        add_back(&mut free, reference + 1);
+        free.push_back_reserved(reference + 1);
     }
     Ok(free)
 }

@@ -15,7 +15,6 @@ mod finding;
 mod frames;
 mod kept;
 mod laws;
-mod lists;
 mod receiving;
 mod requests;
 mod rows;

@@ -9,7 +9,6 @@ ghost use Rattle.conn_core.specs.Tables.{ended_row, is_reference, is_sent_with};
 use crate::answers::{FrameAnswer, FrameRefusal};
 use crate::closing::close;
 use crate::finding::{place_quarantined, place_sent};
-use crate::lists::add_back;
 use crate::rows::{Phase, Row};
 use crate::tables::KeptTable;
 use std::alloc::AllocError;
@@ -28,7 +27,7 @@ fn settle(table: &mut KeptTable, reference: u16) -> FrameAnswer
         None => FrameAnswer::Stray { reference },
         Some(at) => {
             table.quarantined.remove(at);
-            add_back(&mut table.free, reference);
+            table.free.push_back_reserved(reference);
             FrameAnswer::Late { reference }
         }
     }
@@ -69,7 +68,7 @@ fn arrive<W: Wire>(
             let row = &mut table.rows[at];
             let outcome = wire.fit(table.alloc, &row.ask, reply)?;
             let answer = end_row(row, outcome);
-            add_back(&mut table.free, reply.reference);
+            table.free.push_back_reserved(reply.reference);
             Ok(answer)
         }
     }

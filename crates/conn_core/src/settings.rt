@@ -1,3 +1,6 @@
+ghost use Rattle.std.specs.Prelude.{◌↔◌, IsTrue};
+ghost use Rattle.conn_core.specs.Tables.{IsSettings};
+
 /// How a connection is shared.
 #[derive(Clone, Copy, Debug, PartialEq, Eq)]
 pub struct Settings {
@@ -13,4 +16,18 @@ pub struct Settings {
     pub lease_ms: u32,
     /// How long a caller waits for a lease, 1 to 86,400,000 milliseconds.
     pub wait_ms: u32,
+}
+
+impl Settings {
+    /// Whether each setting lies in its range, so that a connection may be made with them.
+    pub fn are_in_range(&self) -> bool
+        ensures { IsTrue result ↔ IsSettings self.now }
+    {
+        1 <= self.references
+            && (1..=64).contains(&self.window)
+            && (1..=64).contains(&self.share)
+            && (64..=262_144).contains(&self.journal)
+            && (1..=86_400_000).contains(&self.lease_ms)
+            && (1..=86_400_000).contains(&self.wait_ms)
+    }
 }

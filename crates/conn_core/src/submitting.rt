@@ -6,7 +6,6 @@ ghost use Rattle.conn_core.specs.Steps.{accepted_of, answer_of, next_reference, 
 
 use crate::answers::{Accepted, SubmitRefusal};
 use crate::finding::holds;
-use crate::lists::add;
 use crate::rows::{Phase, Row};
 use crate::tables::{KeptTable, MAX_ROWS, find_deadline};
 use node_tree::ByteList;
@@ -88,6 +87,6 @@ pub(crate) fn start(
         deadline: find_deadline(table.clock, timeout_ms),
         phase: Phase::Queued(frame),
     };
-    add(&mut table.rows, row);
+    table.rows.push_reserved(row);
     Ok(Accepted { id, reference })
 }

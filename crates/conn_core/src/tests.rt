@@ -55,8 +55,11 @@ fn submit<W: Wire>(alloc: Global, state: &mut ConnState<W>, lease: u64) -> Resul
 fn send<W: Wire>(rt: &impl Abort, state: &mut ConnState<W>) -> Said {
     match state.take_send(0) {
         Ok(sending) => {
-            let [_, low] = sending.reference.to_be_bytes();
-            assert_eq!(rt; sending.frame.as_slice(), [0, 5, 0, low, 0xaa].as_slice());
+            let [high, low] = sending.reference.to_be_bytes();
+            assert_eq!(rt;
+                sending.frame.as_slice(),
+                [0, 5, high, low, 0xaa].as_slice()
+            );
             Said::Sent(sending.id, sending.reference)
         }
         Err(refusal) => Said::NotSent(refusal),
@@ -289,45 +292,151 @@ fn a_full_journal_closes_the_table(rt: HostRuntime) -> Result<(), Fail> {
     Ok(())
 }
 
-#[test]
-fn at_most_64_wait(rt: HostRuntime) -> Result<(), Fail> {
-    let settings = Settings {
-        journal: 256,
-        ..SETTINGS
-    };
-    let mut state = ConnState::new(rt.alloc(), RawWire, settings)?;
-    check_asked(&rt, &mut state, 1, GRANTED);
-    for place in 0u8..64 {
-        let lease = u64::from(place) + 2;
-        check_asked(
-            &rt,
-            &mut state,
-            1,
-            Ok(LeaseAnswer::Waiting { lease, place }),
-        );
+/// An open connection with settings that lie in their ranges.
+fn open(alloc: Global, settings: Settings) -> Result<ConnState<RawWire>, Fail> {
+    if !settings.are_in_range() {
+        return Err(Fail::from("settings out of range"));
     }
-    check_asked(&rt, &mut state, 1, Err(AskRefusal::QueueFull));
-    assert_eq!(rt; state.journal().len(), 65);
+    Ok(ConnState::new(alloc, RawWire, settings)?)
+}
+
+#[test]
+fn as_many_leases_are_held_as_may_be_and_64_wait(rt: HostRuntime) -> Result<(), Fail> {
+    for share in [1u8, 64] {
+        let settings = Settings {
+            share,
+            journal: 256,
+            ..SETTINGS
+        };
+        let mut state = open(rt.alloc(), settings)?;
+        let held = u64::from(share);
+        for lease in 1..=held {
+            check_asked(&rt, &mut state, 1, Ok(LeaseAnswer::Granted { lease }));
+        }
+        for place in 0u8..64 {
+            let lease = held + u64::from(place) + 1;
+            check_asked(
+                &rt,
+                &mut state,
+                1,
+                Ok(LeaseAnswer::Waiting { lease, place }),
+            );
+        }
+        check_asked(&rt, &mut state, 1, Err(AskRefusal::QueueFull));
+        assert_eq!(rt; state.journal().len(), usize::from(share) + 64);
+    }
+    Ok(())
+}
+
+/// Ends the request that was sent under a reference of the same number, and collects it.
+fn answer_and_collect(
+    rt: &impl Abort,
+    alloc: Global,
+    state: &mut ConnState<RawWire>,
+    reference: u16,
+) -> Result<(), Fail> {
+    let [high, low] = reference.to_be_bytes();
+    let frame = OwnedList::from_slice(alloc, &[0, 5, high, low, 0xbb])?;
+    let id = u64::from(reference);
+    let kind = EndKind::Done;
+    let answer = state.apply_frame(0, frame);
+    assert_eq!(rt; answer, Ok(FrameAnswer::Ended { id, kind }));
+    match state.collect(1, id) {
+        Ok(outcome) => assert_eq!(rt; outcome.kind, kind),
+        Err(_) => return Err(Fail::from("not collected")),
+    }
     Ok(())
 }
 
 #[test]
-fn at_most_1024_rows_are_kept(rt: HostRuntime) -> Result<(), Fail> {
+fn at_most_1024_rows_are_kept_and_each_is_served(rt: HostRuntime) -> Result<(), Fail> {
     let alloc = rt.alloc();
     let settings = Settings {
-        references: 2000,
-        journal: 262144,
+        references: 65_535,
+        window: 64,
+        journal: 262_144,
         ..SETTINGS
     };
-    let mut state = ConnState::new(alloc, RawWire, settings)?;
+    let mut state = open(alloc, settings)?;
     check_asked(&rt, &mut state, 1, GRANTED);
-    for id in 1u16..1025 {
+    for id in 1u16..=1024 {
         let said = submit(alloc, &mut state, 1)?;
         assert_eq!(rt; said, Said::Started(u64::from(id), id));
     }
-    let full = Said::NotStarted(SubmitRefusal::TableFull);
-    check_lines(&rt, alloc, &mut state, &[(SUBMIT, full)])?;
-    assert_eq!(rt; state.journal().len(), 1025);
+    let said = submit(alloc, &mut state, 1)?;
+    assert_eq!(rt; said, Said::NotStarted(SubmitRefusal::TableFull));
+    for round in 0u16..16 {
+        for place in 1u16..=64 {
+            let id = 64 * round + place;
+            assert_eq!(rt; send(&rt, &mut state), Said::Sent(u64::from(id), id));
+        }
+        assert_eq!(rt; send(&rt, &mut state), Said::NotSent(SendRefusal::Nothing));
+        for place in 1u16..=64 {
+            answer_and_collect(&rt, alloc, &mut state, 64 * round + place)?;
+        }
+    }
+    assert_eq!(rt; submit(alloc, &mut state, 1)?, Said::Started(1025, 1025));
+    assert_eq!(rt; state.journal().len(), 1 + 4 * 1024 + 1);
+    Ok(())
+}
+
+const LEAST: Settings = Settings {
+    references: 1,
+    window: 1,
+    share: 1,
+    journal: 64,
+    lease_ms: 1,
+    wait_ms: 1,
+};
+
+const MOST: Settings = Settings {
+    references: 65_535,
+    window: 64,
+    share: 64,
+    journal: 262_144,
+    lease_ms: 86_400_000,
+    wait_ms: 86_400_000,
+};
+
+#[test]
+fn settings_at_the_ends_of_their_ranges_serve(rt: HostRuntime) -> Result<(), Fail> {
+    for settings in [LEAST, MOST] {
+        let mut state = open(rt.alloc(), settings)?;
+        check_asked(&rt, &mut state, 1, GRANTED);
+        let lines = [
+            (SUBMIT, Said::Started(1, 1)),
+            (Line::Send, Said::Sent(1, 1)),
+            (REPLY, ENDED),
+            (Line::Collect(1), Said::Collected(EndKind::Done)),
+        ];
+        check_lines(&rt, rt.alloc(), &mut state, &lines)?;
+    }
+    for (references, window, share, journal) in [
+        (0, 1, 1, 64),
+        (1, 0, 1, 64),
+        (1, 65, 1, 64),
+        (1, 1, 0, 64),
+        (1, 1, 65, 64),
+        (1, 1, 1, 63),
+        (1, 1, 1, 262_145),
+    ] {
+        let settings = Settings {
+            references,
+            window,
+            share,
+            journal,
+            ..LEAST
+        };
+        assert!(rt; !settings.are_in_range());
+    }
+    for (lease_ms, wait_ms) in [(0, 1), (1, 0), (86_400_001, 1), (1, 86_400_001)] {
+        let settings = Settings {
+            lease_ms,
+            wait_ms,
+            ..LEAST
+        };
+        assert!(rt; !settings.are_in_range());
+    }
     Ok(())
 }
 

@@ -1,5 +1,7 @@
-ghost use Rattle.std.specs.Prelude.{◌≡◌, ◌≤◌, ◌↔◌, length, None, IfOk, IsTrue};
+ghost use Rattle.std.specs.Prelude.{◌≡◌, ◌≤◌, ◌↔◌, ◌+◌, length, min, None, Some, IfOk, IsTrue, OnOk};
+ghost use Rattle.std.specs.Io.KnownBytes.{ReadConsumes};
 ghost use Rattle.std.specs.String.{string_bytes, string_capacity};
+ghost use Rattle.link_io.specs.Counts.{top};
 
 use crate::counts::Count;
 use crate::retries::read_retrying;
@@ -110,15 +112,30 @@ struct Opened<F> {
 
 impl<F: Read + Seek> Opened<F> {
     fn read_at(&mut self, from: u64, to: &mut [u8]) -> io::Result<usize>
-        ensures { IfOk result (λ n. n ≤ length to.new) }
+        ensures count { IfOk result (λ n. n ≤ length to.new) }
+        ensures position { IfOk result (λ n. self.new.position ≡ min (from + n) top) }
+        // Where the file tells its bytes and lies at this position, they are the next, and 0 comes only at its end.
+        ensures bytes { from ≡ self.old.position →
+            ReadConsumes (F.remaining self.old.file) (F.remaining self.new.file) result to.new }
+    {
+        self.seek_to(from)?;
+        let count = read_retrying(&mut self.file, to)?;
+        self.position = self.position.saturating_add(count as u64);
+        Ok(count)
+    }
+
+    /// Lets the next read begin at this byte. A file that lies there already isn't asked, so that a pipe is read too.
+    fn seek_to(&mut self, from: u64) -> io::Result<()>
+        ensures position { OnOk result (self.new.position ≡ from) }
+        ensures lies { F.stream_position self.old.file ≡ Some self.old.position
+            → OnOk result (F.stream_position self.new.file ≡ Some from) }
+        ensures stays { from ≡ self.old.position → self.new ≡ self.old }
     {
         if from != self.position {
             self.file.seek(SeekFrom::Start(from))?;
             self.position = from;
         }
-        let count = read_retrying(&mut self.file, to)?;
-        self.position = self.position.saturating_add(count as u64);
-        Ok(count)
+        Ok(())
     }
 }
 

@@ -1,4 +1,6 @@
-ghost use Rattle.std.specs.Prelude.{◌≡◌, None};
+ghost use Rattle.std.specs.Prelude.{◌≡◌, ◌<◌, ◌≤◌, None, Ok, length, IfOk, OnOk, OnErr};
+ghost use Rattle.std.specs.Io.KnownBytes.{Keeps, ReadConsumes, WriteAppends};
+ghost use Rattle.link_io.specs.Counts.{Rose};
 
 use crate::counts::Count;
 use crate::retries::{flush_retrying, read_retrying, write_retrying};
@@ -53,16 +55,35 @@ impl<R: Read> Source for StdSource<R> {
     ghost seen = { λ source. record { tape = None; ends = source.ends; faults = source.faults } };
 
     fn read(&mut self, to: &mut [u8]) -> Result<usize, Failed> {
-        match read_retrying(&mut self.reader, to) {
-            Ok(0) => {
-                self.ends.rise();
-                Ok(0)
-            }
-            Ok(count) => Ok(count),
-            Err(_) => {
-                self.faults.rise();
-                Err(Failed)
-            }
+        read_counted(&mut self.reader, &mut self.ends, &mut self.faults, to)
+    }
+}
+
+/// One read, whose end or fault is counted. Where the reader tells its bytes, these are the next, none are lost at a fault,
+/// and an end comes only where no byte is left.
+fn read_counted<R: Read>(
+    reader: &mut R,
+    ends: &mut Count,
+    faults: &mut Count,
+    to: &mut [u8],
+) -> Result<usize, Failed>
+    ensures count { IfOk result (λ n. n ≤ length to.new) }
+    ensures bytes { ReadConsumes (R.remaining reader.old) (R.remaining reader.new) result to.new }
+    ensures end_counted { result ≡ Ok 0 → Rose ends.old ends.new }
+    ensures no_end { IfOk result (λ n. 0 < n → ends.new ≡ ends.old) }
+    ensures failed_no_end { OnErr result (ends.new ≡ ends.old) }
+    ensures no_fault { OnOk result (faults.new ≡ faults.old) }
+    ensures failed { OnErr result (Rose faults.old faults.new) }
+{
+    match read_retrying(reader, to) {
+        Ok(0) => {
+            ends.rise();
+            Ok(0)
+        }
+        Ok(count) => Ok(count),
+        Err(_) => {
+            faults.rise();
+            Err(Failed)
         }
     }
 }
@@ -105,26 +126,47 @@ impl<W: Write> Sink for StdSink<W> {
     ghost seen = { λ faults. record { held = None; faults = faults } };
 
     fn write(&mut self, from: &[u8]) -> Result<usize, Failed> {
-        match write_retrying(&mut self.writer, from) {
-            Ok(0) => {
-                self.faults.rise();
-                Ok(0)
-            }
-            Ok(count) => Ok(count),
-            Err(_) => {
-                self.faults.rise();
-                Err(Failed)
-            }
-        }
+        write_counted(&mut self.writer, &mut self.faults, from)
     }
 
     fn flush(&mut self) -> Result<(), Failed> {
-        match flush_retrying(&mut self.writer) {
-            Ok(()) => Ok(()),
-            Err(_) => {
-                self.faults.rise();
-                Err(Failed)
-            }
+        flush_counted(&mut self.writer, &mut self.faults)
+    }
+}
+
+/// One write, whose fault is counted; to take no byte is one too. Where the writer tells its bytes, as many were added as are
+/// answered, and none at a fault.
+fn write_counted<W: Write>(writer: &mut W, faults: &mut Count, from: &[u8]) -> Result<usize, Failed>
+    ensures count { IfOk result (λ n. n ≤ length from.now) }
+    ensures bytes { WriteAppends (W.contents writer.old) (W.contents writer.new) result from.now }
+    ensures no_fault { IfOk result (λ n. 0 < n → faults.new ≡ faults.old) }
+    ensures nothing { result ≡ Ok 0 → Rose faults.old faults.new }
+    ensures failed { OnErr result (Rose faults.old faults.new) }
+{
+    match write_retrying(writer, from) {
+        Ok(0) => {
+            faults.rise();
+            Ok(0)
+        }
+        Ok(count) => Ok(count),
+        Err(_) => {
+            faults.rise();
+            Err(Failed)
+        }
+    }
+}
+
+/// One flush, whose fault is counted.
+fn flush_counted<W: Write>(writer: &mut W, faults: &mut Count) -> Result<(), Failed>
+    ensures bytes { Keeps (W.contents writer.old) (W.contents writer.new) }
+    ensures no_fault { OnOk result (faults.new ≡ faults.old) }
+    ensures failed { OnErr result (Rose faults.old faults.new) }
+{
+    match flush_retrying(writer) {
+        Ok(()) => Ok(()),
+        Err(_) => {
+            faults.rise();
+            Err(Failed)
         }
     }
 }

@@ -227,24 +227,67 @@ fn a_real_file_is_read_at_an_offset(rt: HostRuntime) -> Result<(), Fail> {
 #[test]
 fn real_files_are_read_in_turn(rt: HostRuntime) -> Result<(), Fail> {
     let one = temp_name(&rt, "one")?;
-    let other = temp_name(&rt, "another")?;
-    fs::write(&rt, one.as_str(), b"0123".as_slice())?;
-    fs::write(&rt, other.as_str(), b"4567".as_slice())?;
+    let two = temp_name(&rt, "two")?;
+    fs::write(&rt, one.as_str(), b"012345".as_slice())?;
+    fs::write(&rt, two.as_str(), b"6789ab".as_slice())?;
     let mut shelf = FileShelf::new(rt, rt.alloc())?;
     let mut piece = [0u8; 2];
+    // Twice from one byte, behind another file, behind the read before, at a byte that was passed, and behind it.
     for (name, from, wanted) in [
         (&one, 0, *b"01"),
-        (&other, 2, *b"67"),
+        (&one, 0, *b"01"),
+        (&two, 2, *b"89"),
         (&one, 2, *b"23"),
+        (&one, 4, *b"45"),
         (&one, 1, *b"12"),
-        (&other, 0, *b"45"),
+        (&one, 3, *b"34"),
+        (&two, 0, *b"67"),
+        (&two, 2, *b"89"),
     ] {
         assert_eq!(rt; shelf.read_at(name.as_str(), from, &mut piece), Ok(2));
         assert_eq!(rt; piece, wanted, "{name} from {from}");
     }
+    for from in [6, 7] {
+        assert_eq!(rt; shelf.read_at(two.as_str(), from, &mut piece), Ok(0));
+    }
     assert_eq!(rt; shelf.faults(), 0);
     fs::remove_file(&rt, one.as_str())?;
-    fs::remove_file(&rt, other.as_str())?;
+    fs::remove_file(&rt, two.as_str())?;
+    Ok(())
+}
+
+/// From which byte to which each read of a file of 150,000 bytes goes, where there is room for 70,000.
+const LARGE_READS: [(usize, usize); 4] = [
+    (0, 70_000),
+    (70_000, 140_000),
+    (140_000, 150_000),
+    (150_000, 150_000),
+];
+
+#[test]
+fn a_large_real_file_is_written_and_read(rt: HostRuntime) -> Result<(), Fail> {
+    let alloc = rt.alloc();
+    let name = temp_name(&rt, "large")?;
+    let mut bytes = Vec::new(alloc);
+    for at in 0u32..150_000 {
+        bytes.push((at % 251) as u8)?;
+    }
+    assert_eq!(rt; bytes.len(), 150_000);
+    let mut sink = StdSink::new(fs::create(&rt, name.as_str())?);
+    assert_eq!(rt; sink.write(&bytes), Ok(150_000));
+    let mut source = StdSource::new(fs::open(&rt, name.as_str())?);
+    let mut shelf = FileShelf::new(rt, alloc)?;
+    let mut piece = [0u8; 70_000];
+    for (from, to) in LARGE_READS {
+        let wanted = bytes.get(from..to).ok_or("short")?;
+        let read = shelf.read_at(name.as_str(), from as u64, &mut piece);
+        assert_eq!(rt; read, Ok(wanted.len()));
+        assert!(rt; piece.starts_with(wanted), "the shelf from {from}");
+        assert_eq!(rt; source.read(&mut piece), Ok(wanted.len()));
+        assert!(rt; piece.starts_with(wanted), "the source from {from}");
+    }
+    assert_eq!(rt; (source.ends(), source.faults(), shelf.faults()), (1, 0, 0));
+    fs::remove_file(&rt, name.as_str())?;
     Ok(())
 }
 

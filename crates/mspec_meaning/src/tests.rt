@@ -3,7 +3,7 @@ use mspec_tree::{
     Body, ByteOrder, Def, DefBody, Description, Field, FieldList, Param, ParamList, Place, Ref,
     Simple,
 };
-use node_tree::{Node, ReadFault, Reading, Span};
+use node_tree::{Node, ReadFault, ReadWhy, Reading, Span};
 use sqlite_items::Items;
 use std::alloc::{AllocError, Global};
 use std::test::Fail;
@@ -24,6 +24,11 @@ const BYTE: Number = Number {
 
 const WORD: Number = Number {
     width: 16,
+    order: None,
+};
+
+const LONG: Number = Number {
+    width: 64,
     order: None,
 };
 
@@ -84,14 +89,30 @@ fn params_of(alloc: Global, count: usize) -> Result<ParamList, AllocError> {
 
 /// The description of one type.
 fn description_of(alloc: Global, form: &Form) -> Result<Description, AllocError> {
+    let fields = fields_of(alloc, form.fields)?;
+    describe(alloc, fields, form.order, form.params)
+}
+
+/// The description of a type of so many fields of one kind.
+fn repeated(alloc: Global, number: Number, count: usize) -> Result<Description, AllocError> {
+    let fields = fields_of(alloc, &vec![in alloc; number; count]?)?;
+    describe(alloc, fields, None, 0)
+}
+
+fn describe(
+    alloc: Global,
+    fields: FieldList,
+    order: Option<ByteOrder>,
+    params: usize,
+) -> Result<Description, AllocError> {
     let mut defs = Items::new(alloc);
     defs.push(Def {
         place: NO_PLACE,
         named: NO_PLACE,
         name: Items::from_slice(alloc, b"B")?,
-        params: params_of(alloc, form.params)?,
-        order: form.order,
-        body: DefBody::Plain(fields_of(alloc, form.fields)?),
+        params: params_of(alloc, params)?,
+        order,
+        body: DefBody::Plain(fields),
     })?;
     Ok(Description { defs })
 }
@@ -165,6 +186,41 @@ fn bytes_that_are_missing_are_told(rt: HostRuntime) -> Result<(), Fail> {
     for bytes in [[1, 0].as_slice(), &[1], &[]] {
         let outcome = read(rt.alloc(), &d, bytes).ok_or("not plain")?;
         assert!(rt; matches!(outcome, Err(ReadFault::Short)), "{bytes:?}");
+    }
+    Ok(())
+}
+
+/// How many fields of which kind a type has, and what of 65,536 bytes it makes: the bits of its value, or the bit at which a field
+/// is too long.
+const MANY_FIELDS: [(usize, Number, Result<u32, u32>); 6] = [
+    (1, BYTE, Ok(8)),
+    (3, WORD, Ok(48)),
+    (256, LONG, Ok(16_384)),
+    (65_535, BYTE, Ok(524_280)),
+    (65_536, BYTE, Err(524_280)),
+    (8_192, LONG, Err(524_224)),
+];
+
+#[test]
+fn values_have_up_to_65535_bytes(rt: HostRuntime) -> Result<(), Fail> {
+    let bytes = vec![in rt.alloc(); 0; 65_536]?;
+    for (count, number, wanted) in MANY_FIELDS {
+        let d = repeated(rt.alloc(), number, count)?;
+        let got = match read(rt.alloc(), &d, &bytes).ok_or("not plain")? {
+            Ok(reading) => {
+                let entries = entries_of(&reading).ok_or("no type's value")?;
+                assert_eq!(rt; entries.len(), count);
+                Ok(reading.bits)
+            }
+            Err(
+                ReadFault::Bad {
+                    bit,
+                    why: ReadWhy::TooLong,
+                },
+            ) => Err(bit),
+            Err(_) => return Err(Fail::from("another fault")),
+        };
+        assert_eq!(rt; got, wanted, "{count} fields");
     }
     Ok(())
 }

@@ -6,7 +6,7 @@ use Rattle.std.proofs.lemmas.Grind.{flat_map-append}
 use Rattle.std.proofs.lemmas.List.{take_all, append-nil}
 use Rattle.node_tree.specs.declared.readings.Reading.{Reading}
 use Rattle.mspec_tree.specs.declared.defs.Description.{Description}
-use Rattle.mspec_meaning.specs.Stream.{Stream, Ending}
+use Rattle.mspec_meaning.specs.Stream.{Stream, Ending, End, TooFew, Refused}
 use Rattle.link_io.specs.Streams.{ShelfSeen, SourceSeen, Tape, AreNext, after_giving-nil}
 use Rattle.plchost.specs.declared.inputs.How.{How}
 use Rattle.plchost.specs.declared.inputs.How.TheVariants.{Ended}
@@ -20,7 +20,7 @@ use Rattle.plchost.specs.Runs.{FileTaken, InputTaken, IsScriptFront}
 use Rattle.script_replay.specs.Replays.{Script}
 use Rattle.script_replay.specs.declared.replays.ScriptEnd.{ScriptEnd}
 use Rattle.plchost.proofs.StatusLemmas.{not_both}
-use Rattle.plchost.specs.Tool.{AreDecode, AreReplay, Answers, input_limit, script_last, Names, ComesTo, WordsRefused, FileFault, NotBuilt, TypeRefused, Values, Said, Taken, Tool, IsFront, said, listings, last_said}
+use Rattle.plchost.specs.Tool.{AreDecode, AreReplay, Answers, input_limit, script_last, Names, ComesTo, WordsRefused, FileFault, NotBuilt, TypeRefused, Values, Said, Taken, Tool, Course, IsDecided, IsFront, said, listings, last_said, text_so_far}
 
 next_none : (tape : Option Tape) → AreNext [] tape
 next_none None = tt
@@ -72,23 +72,34 @@ front_of_values words text taken how d def front back ending comes =
       Values d def (front ++ back) ending,
       listings d def back ++ last,
       comes,
-      tt,
       sym (append_assoc (listings d def front) (listings d def back) last) ∙ ap (λ (xs : List ℕ). xs ++ last) (sym all),
     )
 
 -- the listings of all values are a front
 pub front_before_last : (words : List (List ℕ)) (text taken : List ℕ) (how : How) (d : Description) (def : ℕ) (readings : List Reading) (ending : Ending) → ComesTo words (taken_so text taken how) (Values d def readings ending) → IsFront words (taken_so text taken how) (listings d def readings)
 front_before_last words text taken how d def readings ending comes =
-    inr (Values d def readings ending, (last_said (Some how) ending).text, comes, tt, refl)
+    inr (Values d def readings ending, (last_said (Some how) ending).text, comes, refl)
 
 -- the values, read to their end
 pub values_tool : (words : List (List ℕ)) (text taken : List ℕ) (how : How) (d : Description) (def : ℕ) (readings : List Reading) (ending : Ending) → ComesTo words (taken_so text taken how) (Values d def readings ending) → Tool words (taken_so text taken how) (said (Some how) (Values d def readings ending))
 values_tool words text taken how d def readings ending comes = (Values d def readings ending, comes, tt, refl)
 
+-- of a run that was decided the whole text is told
+told_whole : (how : Option How) (course : Course) → IsDecided how course → (said how course).text ≡ text_so_far how course
+told_whole None WordsRefused decided = refl
+told_whole None FileFault decided = refl
+told_whole None NotBuilt decided = refl
+told_whole None TypeRefused decided = refl
+told_whole None (Values d def readings End) decided = absurd decided
+told_whole None (Values d def readings (TooFew left)) decided = absurd decided
+told_whole None (Values d def readings (Refused bit why)) decided = refl
+told_whole None (Answers text end) decided = absurd decided
+told_whole (Some left) course decided = refl
+
 -- the text of a run is a front of itself
 pub front_of_tool : (words : List (List ℕ)) (t : Taken) (outcome : Said) → Tool words t outcome → IsFront words t outcome.text
 front_of_tool words t outcome tool =
-    inr (tool.0, [], tool.1, tool.2, append-nil outcome.text ∙ ap (λ (s : Said). s.text) tool.3)
+    inr (tool.0, [], tool.1, append-nil outcome.text ∙ ap (λ (s : Said). s.text) tool.3 ∙ told_whole t.how tool.0 tool.2)
 
 -- ---- scripts
 
@@ -111,6 +122,6 @@ front_of_script words taken how front replay is =
       | inr s ↦
           let last = (script_last (Some s.0) s.3).text in
           let same = sym (append_assoc front s.2 last) ∙ ap (λ (xs : List ℕ). xs ++ last) s.6 in
-          let all : IsFront words (script_taken taken (Some s.0)) front = inr (Answers s.1 s.3, s.2 ++ last, (replay, s.5), tt, same) in
+          let all : IsFront words (script_taken taken (Some s.0)) front = inr (Answers s.1 s.3, s.2 ++ last, (replay, s.5), same) in
           subst (λ (left : Option How). IsFront words (script_taken taken left) front) (sym s.4) all
     ]

@@ -21,9 +21,9 @@ lines_in ended bytes = lines_among ended (slice_split (λ b. b == 10) bytes)
 abbrev pub with_feeds : List (List ℕ) → List ℕ
 with_feeds lines = flat_map (λ line. line ++ 10 ∷ []) lines
 
--- an input that was left before its end counts as ended, which no run says (`IsDecided`)
+-- the input has ended; one that was left before its end may go on, and so may its last line
 abbrev pub has_ended : Option How → Bool
-has_ended None = true
+has_ended None = false
 has_ended (Some Ended) = true
 has_ended (Some Failed) = false
 has_ended (Some Over) = false

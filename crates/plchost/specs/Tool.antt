@@ -168,8 +168,15 @@ IsDecided how course = Unit {0}
 abbrev pub Tool : (words : List (List ℕ)) → Taken → Said → Type 0
 Tool words t outcome = (course : Course) × ComesTo words t course × IsDecided t.how course × (outcome ≡ said t.how course)
 
--- A front of the text. Of values and lines there is one only where the run was decided.
+-- The text that a run comes to, as far as what it took tells: all of it where the run was decided, and else the values and the
+-- answers without a last line, since more of the input may come.
+abbrev pub text_so_far : Option How → Course → List ℕ
+text_so_far None (Values d def readings End) = listings d def readings
+text_so_far None (Values d def readings (TooFew left)) = listings d def readings
+text_so_far None (Answers text end) = text
+text_so_far how course = (said how course).text
+
+-- A front of the text, as far as what was taken tells it.
 abbrev pub IsFront : (words : List (List ℕ)) → Taken → (front : List ℕ) → Type 0
 IsFront words t front =
-    (front ≡ [])
-    ⊎ ((course : Course) × (rest : List ℕ) × ComesTo words t course × IsDecided t.how course × (front ++ rest ≡ (said t.how course).text))
+    (front ≡ []) ⊎ ((course : Course) × (rest : List ℕ) × ComesTo words t course × (front ++ rest ≡ text_so_far t.how course))

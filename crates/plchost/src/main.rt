@@ -12,6 +12,8 @@ mod listings;
 mod plain_types;
 mod preparing;
 mod printing;
+#[cfg(test)]
+mod range_tests;
 mod replaying;
 mod replies;
 #[cfg(test)]
@@ -24,10 +26,12 @@ mod tool;
 mod values;
 mod words;
 
-ghost use Rattle.std.specs.Prelude.{◌≡◌, [], Ok, IfOk, IfErr};
+ghost use Rattle.std.specs.Prelude.{◌≡◌, ◌⊎◌, [], Ok, IfOk, IfErr};
+ghost use Rattle.std.specs.Process.{exit_status};
+ghost use Rattle.plchost.specs.Runs.{IsRun, shown};
 
 use faults::Cut;
-use link_io::{FileShelf, StdSink, StdSource, StringList};
+use link_io::{FileShelf, Shelf, Sink, Source, StdSink, StdSource, StringList};
 use std::alloc::{AllocError, Global};
 use std::io::ErrorKind;
 use std::process::ExitCode;
@@ -63,14 +67,35 @@ fn words_and_files(rt: HostRuntime) -> Result<(StringList, FileShelf<HostRuntime
     Ok((words, files))
 }
 
+/// The run by these words. The process is to end with its status.
+fn run_process<F: Shelf, S: Source, K: Sink>(
+    alloc: Global,
+    words: &StringList,
+    files: &mut F,
+    input: &mut S,
+    out: &mut K,
+) -> ExitCode
+    ensures { IsRun words.now F.counts_with
+        (shown (F.seen files.old) (S.seen input.old) (K.seen out.old))
+        (shown (F.seen files.new) (S.seen input.new) (K.seen out.new)) (exit_status result) }
+{
+    ExitCode::from(tool_main(alloc, words, files, input, out))
+}
+
+/// The end of a process that has no memory for its words and its files.
+fn end_without_memory<K: Sink>(out: &mut K) -> ExitCode
+    ensures { (exit_status result ≡ 8) ⊎ (exit_status result ≡ 5) }
+{
+    ExitCode::from(conclude(out, &[], Err(Cut::NoMemory)))
+}
+
 fn main(rt: HostRuntime) -> ExitCode {
     let mut out = StdSink::new(io::writer(&rt));
-    let status = match words_and_files(rt) {
+    match words_and_files(rt) {
         Ok((words, mut files)) => {
             let mut input = StdSource::new(rt.reader());
-            tool_main(rt.alloc(), &words, &mut files, &mut input, &mut out)
+            run_process(rt.alloc(), &words, &mut files, &mut input, &mut out)
         }
-        Err(AllocError) => conclude(&mut out, &[], Err(Cut::NoMemory)),
-    };
-    ExitCode::from(status)
+        Err(AllocError) => end_without_memory(&mut out),
+    }
 }

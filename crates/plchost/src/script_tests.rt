@@ -3,6 +3,7 @@ ghost use Rattle.std.specs.Prelude.{◌<◌};
 use crate::tests::{Failing, NONE_FAILS, Ran, call_main, run, string_list};
 use link_io::{MemShelf, MemSink, MemSource};
 use std::alloc::{AllocError, Global};
+use std::fmt::Write;
 use std::test::Fail;
 
 /// Runs a script in pieces of at most `piece` bytes.
@@ -196,6 +197,49 @@ fn a_payload_that_is_too_long_is_not_admitted(rt: HostRuntime) -> Result<(), Fai
         let script = submitting(rt.alloc(), bytes)?;
         let ran = replay(rt.alloc(), &script, NONE_FAILS, 1000)?;
         assert_eq!(rt; ran.text.as_slice(), want.as_bytes());
+        assert_eq!(rt; ran.status, 0);
+    }
+    Ok(())
+}
+
+/// A text that stands so many times, one behind the other.
+fn repeat(alloc: Global, text: &str, count: u32) -> Result<String, AllocError> {
+    let mut all = String::new(alloc);
+    for _ in 0..count {
+        all.push_str(text)?;
+    }
+    Ok(all)
+}
+
+/// A script of so many requests, and its answers. Each request has a payload of one byte more than `more`, and is sent,
+/// answered by as many bytes and collected.
+fn rounds(alloc: Global, count: u32, more: u32) -> Result<(String, String), AllocError> {
+    let asked = repeat(alloc, "0a", more)?;
+    let replied = repeat(alloc, "0B", more)?;
+    let values = repeat(alloc, "11,", more)?;
+    let size = u64::from(more) + 5;
+    let mut script = String::from_str(alloc, "table 1 64 1 262144 60000 60000\nask 1 0\n")?;
+    let mut answers = String::from_str(alloc, "granted 1\n")?;
+    for id in 1..=count {
+        write!(script, "submit 1 1 0 3600000 {asked}ff\nsend\n")?;
+        write!(script, "frame {size:04x}0001{replied}FF\ncollect 1 {id}\n")?;
+        write!(
+            answers,
+            "started {id} 1\nsent {id} {size:04x}0001{asked}ff\n"
+        )?;
+        write!(answers, "ended {id} done\ndone {values}255\n")?;
+    }
+    let entries = 4 * u64::from(count) + 1;
+    write!(answers, "entries {entries}\n")?;
+    Ok((script, answers))
+}
+
+#[test]
+fn payloads_of_up_to_4092_bytes_are_sent_and_answered(rt: HostRuntime) -> Result<(), Fail> {
+    for (count, more) in [(1, 0), (1, 99), (1, 999), (1, 4091), (15, 4091)] {
+        let (script, answers) = rounds(rt.alloc(), count, more)?;
+        let ran = replay(rt.alloc(), script.as_bytes(), NONE_FAILS, 100_000)?;
+        assert_eq!(rt; ran.text.as_slice(), answers.as_bytes(), "{count} requests");
         assert_eq!(rt; ran.status, 0);
     }
     Ok(())

@@ -13,7 +13,7 @@ use std::test::Fail;
 const P: &[u8] = b"[type P [simple uint 8 a] [simple uint 16 b]]";
 
 /// A file of values of one byte.
-const ONE_BYTE: &[u8] = b"[type P [simple uint 8 a]]";
+pub const ONE_BYTE: &[u8] = b"[type P [simple uint 8 a]]";
 
 /// The numbers of the calls that fail, from 1.
 #[derive(Clone, Copy)]
@@ -84,7 +84,7 @@ pub fn run(
 }
 
 /// `decode p P` where no call fails, in pieces of at most `piece` bytes.
-fn decoded(alloc: Global, text: &[u8], input: &[u8], piece: usize) -> Result<Ran, AllocError>
+pub fn decoded(alloc: Global, text: &[u8], input: &[u8], piece: usize) -> Result<Ran, AllocError>
     requires { 0 < piece }
 {
     run(alloc, &["decode", "p", "P"], text, input, NONE_FAILS, piece)

@@ -26,7 +26,8 @@ pub record WireMeaning : Type 0 where
   pub rule : LengthRule
   -- which asks it carries
   pub admits : Ask → Bool
-  -- the bytes of the larger of the ask's frame and the reply that completes it, as far as the wire knows how long a reply is
+  -- the bytes of the larger of the request frame and the reply frame that completes it; of the raw wire alone those of the
+  -- request frame
   pub size : Ask → ℕ
   -- how many bytes a frame may have
   pub limit : ℕ

@@ -76,7 +76,8 @@ pub trait Wire: Drop + Send {
     fn admits(&self, ask: &Ask) -> bool
         ensures { result ≡ (meaning self.now).admits ask.now };
 
-    /// The bytes of the larger of the ask's frame and the reply that completes it, as far as the wire knows how long a reply is.
+    /// The bytes of the larger of the request frame and the reply frame that completes it. Of the raw wire alone it is the bytes of
+    /// the request frame, since there a reply is whatever the other side makes of it.
     fn size(&self, ask: &Ask) -> u32
         requires { IsTrue ((meaning self.now).admits ask.now) }
         ensures { result ≡ (meaning self.now).size ask.now };

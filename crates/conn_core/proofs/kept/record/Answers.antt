@@ -4,8 +4,8 @@ use Rattle.conn_core.specs.Rooms.{closes_of, lists_of}
 use Rattle.conn_core.proofs.TurnLemmas.{closes_where_worn, worn_written}
 use Rattle.conn_core.proofs.kept.record.Goals as goal
 
-pub add-requires-then-full : goal.add-requires-then-full
-add-requires-then-full c =
+pub push_reserved-requires-then-full : goal.push_reserved-requires-then-full
+push_reserved-requires-then-full c =
     let t = lists_of c.args.table.now in
     let one : closes_of t ≡ 1 = closes_where_worn c.args.settings.now (c.len.result + 1) t (sym c.wears-full.ensures ∙ c.if-full.true) in omega arith
 
@@ -17,7 +17,7 @@ returns-then-full-clause-journal c =
     let ok = c.args.journal.now.ok.0 in
     let len : c.len.result + 1 ≡ length old + 1 = omega arith in
     let worn : wears s (length old + 1) t ≡ true = sym (ap (λ n. wears s n t) len) ∙ sym c.wears-full.ensures ∙ c.if-full.true in
-    worn_written s (length old + 1) t c.args.entry c.make_worn.result old c.add.new.items.items c.add-then-full.new.items.items c.add-then-full.ensures.items c.add.ensures.items c.make_worn.ensures worn
+    worn_written s (length old + 1) t c.args.entry c.make_worn.result old c.push_reserved.new.self.items c.push_reserved-then-full.new.self.items c.push_reserved-then-full.ensures.items c.push_reserved.ensures.items c.make_worn.ensures worn
 
 pub returns-then-full-clause-table : goal.returns-then-full-clause-table
 returns-then-full-clause-table c =
@@ -37,7 +37,7 @@ returns-else-full-clause-journal c =
     let ok = c.args.journal.now.ok.0 in
     let len : c.len.result + 1 ≡ length old + 1 = omega arith in
     let worn : wears s (length old + 1) t ≡ false = sym (ap (λ n. wears s n t) len) ∙ sym c.wears-full.ensures ∙ c.if-full.false in
-    c.add.ensures.items ∙ sym (ap (λ b. old ++ turn_if b c.args.entry) worn)
+    c.push_reserved.ensures.items ∙ sym (ap (λ b. old ++ turn_if b c.args.entry) worn)
 
 pub returns-else-full-clause-table : goal.returns-else-full-clause-table
 returns-else-full-clause-table c =

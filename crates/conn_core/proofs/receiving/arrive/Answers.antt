@@ -16,8 +16,8 @@ fit-requires-clause-admitted g c =
     let first : IsFirstAt p rows c.in-Some.at = subst (λ xs. IsFirstAt p xs c.in-Some.at) c.deref.ensures.value c.in-Some.ensures in
     (all_found (IsAdmittedRow (g.W.Wire.meaning c.args.wire.now)) p rows row (first.found row (sym c.index_mut-row.ensures.value)) c.requires.admitted).ask
 
-pub add_back-requires : goal.add_back-requires
-add_back-requires g c =
+pub push_back_reserved-requires : goal.push_back_reserved-requires
+push_back_reserved-requires g c =
     let row = c.index_mut-row.result.now in
     let rows = c.args.table.now.rows.items in
     let p = is_sent_with c.args.reply.now.reference in
@@ -33,4 +33,4 @@ returns-in_ok-outcome-in-Some-clause-table g c =
     let reply = c.args.reply.now in
     let p = is_sent_with reply.reference in
     let first : IsFirstAt p rows c.in-Some.at = subst (λ xs. IsFirstAt p xs c.in-Some.at) c.deref.ensures.value c.in-Some.ensures in
-    arrives (g.W.Wire.meaning c.args.wire.now) (lists_of c.args.table.now) reply.reference c.in-Some.at reply.reading row c.end_row-answer.new.row c.in_ok-outcome-in-Some.outcome c.add_back.new.references.items first c.index_mut-row.ensures.value c.in_ok-outcome-in-Some.ensures c.end_row-answer.ensures.row c.add_back.ensures.items
+    arrives (g.W.Wire.meaning c.args.wire.now) (lists_of c.args.table.now) reply.reference c.in-Some.at reply.reading row c.end_row-answer.new.row c.in_ok-outcome-in-Some.outcome c.push_back_reserved.new.self.items first c.index_mut-row.ensures.value c.in_ok-outcome-in-Some.ensures c.end_row-answer.ensures.row c.push_back_reserved.ensures.items

@@ -1,0 +1,179 @@
+#!/bin/sh
+# Runs the built program on files and pipes, and compares what it puts out and its status with what docs/TOOL.md says.
+#
+#     checks/program.sh [PROGRAM]
+#
+# PROGRAM is crates/plchost/out/plchost, which a plain `rt ci` leaves there, unless another is named. The last line is
+# `N passed, M failed`, and the status is 0 only where M is 0. It works in a folder of its own, which it removes.
+cd "$(dirname "$0")/.." || exit 2
+program=${1:-crates/plchost/out/plchost}
+case $program in
+/*) ;;
+*) program=$PWD/$program ;;
+esac
+data=$PWD/crates/plchost/data
+if [ ! -x "$program" ]; then
+    echo "there is no program at $program"
+    echo "0 passed, 1 failed"
+    exit 1
+fi
+room=$(mktemp -d) || exit 2
+trap 'rm -rf "$room"' EXIT
+trap 'exit 2' HUP INT TERM
+cd "$room" || exit 2
+passed=0
+failed=0
+
+# The program by these words, for 20 seconds at most.
+plchost() {
+    timeout 20 "$program" "$@"
+}
+
+# case_is NAME STATUS TEXT: what is wanted of the run that comes next. TEXT is as printf takes it.
+case_is() {
+    name=$1
+    wanted_status=$2
+    printf "$3" >wanted
+}
+
+# judge STATUS: compares the file `got`, and the status that the run ended with.
+judge() {
+    if [ "$1" -eq "$wanted_status" ] && cmp -s wanted got && [ ! -s complaint ]; then
+        passed=$((passed + 1))
+    else
+        failed=$((failed + 1))
+        echo "FAILED: $name: status $1, wanted $wanted_status"
+        cmp wanted got 2>&1
+        head -c 200 complaint
+    fi
+}
+
+# runs NAME STATUS TEXT INPUT WORD..: a run by these words on the file INPUT.
+runs() {
+    case_is "$1" "$2" "$3"
+    input=$4
+    shift 4
+    plchost "$@" <"$input" >got 2>complaint
+    judge $?
+}
+
+# refused NAME WORD..: a run by words that are no command's.
+refused() {
+    about=$1
+    shift
+    runs "$about" 2 'words refused\n' one "$@"
+}
+
+# spaces COUNT: so many spaces.
+spaces() {
+    head -c "$1" /dev/zero | tr '\0' ' '
+}
+
+cp "$data/p" p
+printf '[type P [simple uint 8 a] [simple uint 16 b]]' >record
+printf '[type P [simple uint 8 a]]' >byte
+printf '[type P [simple uint 12 a]]' >other_form
+printf '\001\000\002' >one
+printf '\001\000\002\377\377\377\001' >three
+: >empty
+cat >script <<'END'
+table 2 8 1 64 60000 60000
+ask 1 0
+submit 1 1 0 1000 AA
+send
+frame 00050001BB
+collect 1 1
+END
+answers='granted 1\nstarted 1 1\nsent 1 00050001aa\nended 1 done\ndone 187\nentries 5\n'
+
+# ---- what the README shows
+
+runs 'a value by the stored description' 0 'a = 1\nb = 2\n\n' one decode p P
+runs 'a value' 0 'a = 1\nb = 2\n\n' one decode record P
+runs 'a script' 0 "$answers" script replay
+
+# ---- values, and each status that files and pipes can bring
+
+runs 'no value' 0 '' empty decode record P
+runs 'a description outside the form' 1 'description refused 1:1 NotBuilt\n' one decode other_form P
+runs 'an empty description' 1 'description refused 1:1 NotBuilt\n' one decode empty P
+runs 'a file that there is not' 3 'file fault\n' one decode nothing P
+runs 'a folder in place of a file' 3 'file fault\n' one decode . P
+runs 'another type' 12 'type refused\n' one decode record Q
+runs 'a value that is cut off' 7 'a = 1\nb = 2\n\na = 255\nb = 65535\n\ntruncated 8\n' three decode record P
+runs 'a folder as the input' 4 'read fault\n' . decode record P
+runs 'a folder as a script' 4 'read fault\n' . replay
+
+# ---- words
+
+refused 'no word'
+refused 'too few words' decode
+refused 'too few words behind a file' decode record
+refused 'too many words' decode record P P
+refused 'too many words behind replay' replay script
+refused 'another command' frob
+refused 'a command in capitals' Decode record P
+refused 'an option' --help
+refused 'an option before a command' --version replay
+refused 'an empty file name' decode '' P
+refused 'an empty type name' decode record ''
+refused 'an option as a type' decode record -P
+refused 'an option as a file' decode -record P
+refused 'a word that is not text' decode record "$(printf 'P\377')"
+refused 'a command that is not text' "$(printf 'replay\377')"
+
+# ---- scripts
+
+printf 'table 2 8 1 64 60000 60000\n' >one_line
+printf 'table 2 8 1 64 60000 60000\nask 1 0\nsend\nsends\nsend\n' >refused_line
+runs 'an empty script' 10 'line refused 1\n' empty replay
+runs 'a script of one line' 10 'line refused 2\n' one_line replay
+runs 'a line outside the form' 10 'granted 1\nnothing\nline refused 4\n' refused_line replay
+
+# ---- sizes
+
+{ cat byte && spaces 1048550; } >longest
+{ cat byte && spaces 1048551; } >too_long
+runs 'a description of 1,048,576 bytes' 0 'a = 1\n\na = 0\n\na = 2\n\n' one decode longest P
+runs 'a description of 1,048,577 bytes' 1 'description refused 1:1 NotBuilt\n' one decode too_long P
+spaces 16777216 >input_limit
+spaces 16777217 >past_limit
+runs 'an input of 16,777,216 bytes' 10 'line refused 1\n' input_limit replay
+runs 'an input of 16,777,217 bytes' 13 'input too long\n' past_limit replay
+
+# ---- pipes
+
+case_is 'an input in two pieces' 0 'a = 1\nb = 2\n\n'
+{ printf '\001' && sleep 1 && printf '\000\002'; } | plchost decode record P >got 2>complaint
+judge $?
+
+case_is 'a script through pipes' 0 "$answers"
+{ cat script | plchost replay 2>complaint && echo well >ended; } | cat >got
+judge "$(if [ -e ended ]; then echo 0; else echo 1; fi)"
+
+case_is 'an output of more than a pipe holds' 0 ''
+awk 'BEGIN { for (i = 0; i < 30000; i++) printf "a = 0\n\n" }' >wanted
+head -c 30000 /dev/zero | plchost decode byte P 2>complaint | cat >got
+judge 0
+
+mkfifo description || exit 2
+case_is 'a named pipe as the file' 0 'a = 1\nb = 2\n\n'
+{ spaces 200000 && cat record; } >padded
+timeout 20 sh -c 'cat padded >description' &
+plchost decode description P <one >got 2>complaint
+judge $?
+wait
+
+# ---- an output that fails
+
+if [ -c /dev/full ]; then
+    : >got
+    for words in 'decode record P' 'replay' 'frob'; do
+        case_is "a full device, $words" 5 ''
+        plchost $words <script >/dev/full 2>complaint
+        judge $?
+    done
+fi
+
+echo "$passed passed, $failed failed"
+[ "$failed" -eq 0 ]
