@@ -1,3 +1,5 @@
+pub mod Frames
+pub mod Framings
 pub mod RawCarries
 pub mod RawFrames
 pub mod RawReplies

@@ -4,6 +4,9 @@
 
 mod asks;
 mod ends;
+mod framing;
+#[cfg(test)]
+mod framing_tests;
 mod kinds;
 mod laws;
 mod raw;
@@ -13,7 +16,8 @@ mod wires;
 
 pub use asks::{Ask, ItemList, ValueList, ValueRows};
 pub use ends::{EndKind, FrameWhy, Outcome, Reason};
+pub use framing::{Framed, Framer};
 pub use kinds::{Area, Item, PlcType, PlcValue};
-pub use laws::raw_frames_carry;
+pub use laws::{frames_in_any_cut, one_framing, raw_frames_carry, some_framing};
 pub use raw::RawWire;
 pub use wires::{FrameFault, LengthRule, Reply, ReplyFault, Wire};
