@@ -1,0 +1,4 @@
+pub mod FoundIds
+pub mod KeptLemmas
+pub mod KeptSteps
+pub mod Ranges
