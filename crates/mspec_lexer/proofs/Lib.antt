@@ -1,0 +1,10 @@
+pub mod CutLaws
+pub mod FormLaws
+pub mod FrontLaws
+pub mod GapLaws
+pub mod LongestLaws
+pub mod NumberLaws
+pub mod OneCut
+pub mod PlaceLaws
+pub mod SymbolLaws
+pub mod WholeCuts
