@@ -1,0 +1,4 @@
+pub mod Machine
+pub mod Quotes
+pub mod Rooms
+pub mod Steps
