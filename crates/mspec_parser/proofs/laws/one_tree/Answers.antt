@@ -1,0 +1,6 @@
+use Rattle.std.proofs.Common.{◌≡◌}
+use Rattle.mspec_parser.proofs.CompleteTrees.{one-tree}
+use Rattle.mspec_parser.proofs.laws.one_tree.Goals as goal
+
+pub returns : goal.returns
+returns c = one-tree

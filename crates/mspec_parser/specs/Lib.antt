@@ -1,0 +1,5 @@
+pub mod Defs
+pub mod Fields
+pub mod Readers
+pub mod Small
+pub mod Words
