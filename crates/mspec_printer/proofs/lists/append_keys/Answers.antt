@@ -1,0 +1,9 @@
+use Rattle.std.proofs.Common.{◌≡◌, arith, sym, ap, ◌∙◌}
+use Rattle.std.proofs.lemmas.Grind.{common_steps}
+use Rattle.mspec_printer.proofs.TextLaws.{keys_by}
+use Rattle.mspec_printer.proofs.lists.append_keys.Goals as goal
+
+pub returns : goal.returns
+returns c =
+    let text = keys_by c.args.items.now (sym c.is_empty.ensures ∙ c.if-is_empty.false) in
+    grind (arith, common_steps, text)
