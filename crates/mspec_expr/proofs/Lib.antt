@@ -1,0 +1,9 @@
+mod DepthLaw
+mod MoreBits
+mod OneStream
+mod RangeInside
+mod RangeKnown
+mod RangeLaw
+mod RangeLemmas
+mod RangeSound
+mod WorkedProofs

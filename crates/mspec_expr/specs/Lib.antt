@@ -1,0 +1,15 @@
+pub mod Arguments
+pub mod Contexts
+pub mod Counted
+pub mod Desks
+pub mod Examples
+pub mod Fits
+pub mod Kinds
+pub mod Ranges
+pub mod Reads
+pub mod Sizes
+pub mod Stream
+pub mod Worked
+pub mod Values
+pub mod Visits
+pub mod Writes
