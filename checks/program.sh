@@ -3,8 +3,9 @@
 #
 #     checks/program.sh [PROGRAM]
 #
-# PROGRAM is crates/plchost/out/plchost, which a plain `rt ci` leaves there, unless another is named. The last line is
-# `N passed, M failed`, and the status is 0 only where M is 0. It works in a folder of its own, which it removes.
+# PROGRAM is crates/plchost/out/plchost, which a plain `rt ci` leaves there, unless another is named, by its whole path or one
+# from the repository's top. The last line is `N passed, M failed`, and the status is 0 only where M is 0. It works in a
+# folder of its own, which it removes.
 cd "$(dirname "$0")/.." || exit 2
 program=${1:-crates/plchost/out/plchost}
 case $program in
@@ -34,6 +35,8 @@ case_is() {
     name=$1
     wanted_status=$2
     printf "$3" >wanted
+    : >got
+    : >complaint
 }
 
 # judge STATUS: compares the file `got`, and the status that the run ended with.
@@ -153,8 +156,9 @@ judge "$(if [ -e ended ]; then echo 0; else echo 1; fi)"
 
 case_is 'an output of more than a pipe holds' 0 ''
 awk 'BEGIN { for (i = 0; i < 30000; i++) printf "a = 0\n\n" }' >wanted
-head -c 30000 /dev/zero | plchost decode byte P 2>complaint | cat >got
-judge 0
+rm -f ended
+{ head -c 30000 /dev/zero | { plchost decode byte P 2>complaint && echo well >ended; }; } | cat >got
+judge "$(if [ -e ended ]; then echo 0; else echo 1; fi)"
 
 mkfifo description || exit 2
 case_is 'a named pipe as the file' 0 'a = 1\nb = 2\n\n'
@@ -166,8 +170,9 @@ wait
 
 # ---- an output that fails
 
-if [ -c /dev/full ]; then
-    : >got
+if [ ! -c /dev/full ]; then
+    echo "there is no full device here: its three cases are left out"
+else
     for words in 'decode record P' 'replay' 'frob'; do
         case_is "a full device, $words" 5 ''
         plchost $words <script >/dev/full 2>complaint
