@@ -1,5 +1,7 @@
 mod DepthLaw
+mod DigitLaws
 mod MoreBits
+mod NameLaws
 mod OneStream
 mod RangeInside
 mod RangeKnown

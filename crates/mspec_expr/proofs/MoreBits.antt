@@ -23,7 +23,9 @@ use Rattle.mspec_tree.specs.declared.fields.Case.{Case}
 use Rattle.mspec_tree.specs.declared.defs.Param.{Param}
 use Rattle.mspec_tree.specs.declared.defs.Description.{Description}
 use Rattle.mspec_expr.specs.Counted.{Counted, continued, counted, done, faulted, required, in_turn, ◌>>=◌, ◌>>◌}
-use Rattle.mspec_expr.specs.Kinds.{BodyLayer, layer, width, literal, number_is, of_kind, kind_node, field_meant, fields_of, params_of, case_fields, Target, EnumTarget, GroupTarget, target_named}
+use Rattle.mspec_expr.specs.declared.kinds.Target.{Target}
+use Rattle.mspec_expr.specs.declared.kinds.Target.TheVariants.{Enum as EnumTarget, Group as GroupTarget}
+use Rattle.mspec_expr.specs.Kinds.{BodyLayer, layer, width, literal, number_is, of_kind, kind_node, field_meant, fields_of, params_of, case_fields, target_named}
 use Rattle.mspec_expr.specs.Values.{Sight}
 use Rattle.mspec_expr.specs.Sizes.{depth_limit, bit_limit, node_limit}
 use Rattle.mspec_expr.specs.Contexts.{at_start, bad, seen_too, read_why, Context, Fault, Short, Bad, Outcome, Part, begun, must, bits_at, number_read, bitless, behind, opened, closed, whole_bytes, bytes_before, sight, sight_with_sums, evaluated, spelled_node, spelled, number_order, span}

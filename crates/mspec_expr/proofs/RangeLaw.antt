@@ -16,7 +16,7 @@ use Rattle.mspec_tree.specs.declared.exprs.Shape.{Shape, out-Shape}
 use Rattle.mspec_tree.specs.declared.exprs.Shape.TheOpen.{Shape-F}
 use Rattle.mspec_tree.specs.declared.defs.Description.{Description}
 use Rattle.mspec_expr.specs.declared.kinds.Range.{Range}
-use Rattle.mspec_expr.specs.declared.kinds.ExprWhy.TheVariants.{KindMismatch, TooWide}
+use Rattle.mspec_expr.specs.declared.kinds.ExprWhy.TheVariants.{TooWide}
 use Rattle.mspec_expr.specs.declared.kinds.Meant.{Meant}
 use Rattle.mspec_expr.specs.declared.kinds.Meant.TheVariants.{Number, Flag as FlagKind, EnumOf, GroupOf, ListOf, Bytes, Raw, Null}
 use Rattle.mspec_expr.specs.declared.scopes.Scope.{Scope}
@@ -24,10 +24,11 @@ use Rattle.mspec_expr.specs.Counted.{Counted, done, continued, ◌>>=◌}
 use Rattle.mspec_expr.specs.Kinds.{literal, cases_of}
 use Rattle.mspec_expr.specs.Sizes.{entry_bits, value}
 use Rattle.mspec_expr.specs.Values.{Thing, Number as NumberThing, Sight, Worth, Worths, number, truth, flag, reckoned, both, or_second, and_second, equal, two, branch, shape_worth, worth_at, is_null, thing_number, deepest}
-use Rattle.mspec_expr.specs.Ranges.{Judged, Judges, Fault, range, own_range, numbers_of, meant_numbers, number_is, two_range, reckoned_ranges, reckoned as reckons, two_wrong, two_judged, negated_range, joined, hull, same_item, chosen, branches, branches_joined, cast_meant, cast_group, case_is, shape_judged, judged_at, judged, answer, range_found, both_numbers, kind_wrong, wrong_if, leaves, negated as negates, is_kind, is_number, literal_is, def_is_switched, case_from}
+use Rattle.mspec_expr.specs.declared.kinds.Fault.{Fault}
+use Rattle.mspec_expr.specs.Ranges.{proper, is_proper, hull_of, Judged, Judges, range, judged_numbers, meant_numbers, number_is, two_range, reckoned_ranges, reckoned as reckons, two_wrong, two_judged, negated_range, joined, hull, same_item, chosen, branches, branches_joined, cast_meant, cast_group, case_is, shape_judged, judged_at, judged, answer, range_found, both_numbers, kind_wrong, wrong_if, leaves, negated as negates, is_kind, is_number, literal_is, def_is_switched, case_from}
 use Rattle.mspec_expr.specs.Fits.{IsIn, values_of, values_of_all, is_asked_shape, AskedFit}
 use Rattle.mspec_expr.proofs.RangeLemmas.{negated}
-use Rattle.mspec_expr.proofs.RangeKnown.{Fine, fine, cons_none, none_some, both_none, IsReckoning, Reckoning, reckoning, two_has, chosen_parts, chosen_faults, Chosen, number_faults, operand, not_not, not_wrong}
+use Rattle.mspec_expr.proofs.RangeKnown.{no_number, cons_none, none_some, both_none, IsReckoning, Reckoning, reckoning, two_has, chosen_parts, chosen_faults, Chosen, number_faults}
 use Rattle.mspec_expr.proofs.RangeSound.{some_same, lies, two_in}
 
 -- ---- outcomes
@@ -90,27 +91,31 @@ compared_flags worth o a b sight h =
 -- ---- numbers
 
 -- where its range is its own, what an operand is lies in that range
-own_values : (d : Description) (j : Judged) (r : Range) → own_range d j ≡ Some r → values_of_all d j.meant ≡ Some r
-own_values d j r = go j.ranged j.meant
+own_values : (d : Description) (j : Judged) (r : Range) → judged_numbers d j ≡ Some r → values_of_all d j.meant ≡ Some r
+own_values d j r = go j.meant
   where
-    numbers : (meant : Meant) → numbers_of d meant ≡ Some r → values_of d meant ≡ Some r
-    numbers (Number x) e = e
-    numbers (EnumOf def) e = e
-    numbers FlagKind e = none_some e
-    numbers (GroupOf def case) e = none_some e
-    numbers (ListOf item) e = none_some e
-    numbers Bytes e = none_some e
-    numbers Raw e = none_some e
-    numbers Null e = none_some e
+    go : (meant : Option Meant) → meant_numbers d meant ≡ Some r → values_of_all d meant ≡ Some r
+    go (Some (Number x)) e = e
+    go (Some (EnumOf def)) e = e
+    go (Some FlagKind) e = none_some e
+    go (Some (GroupOf def case)) e = none_some e
+    go (Some (ListOf item)) e = none_some e
+    go (Some Bytes) e = none_some e
+    go (Some Raw) e = none_some e
+    go (Some Null) e = none_some e
+    go None e = none_some e
 
-    go : (ranged : Bool) (meant : Option Meant) → (if ranged then meant_numbers d meant else None) ≡ Some r → values_of_all d meant ≡ Some r
-    go true (Some meant) e = numbers meant e
-    go true None e = none_some e
-    go false meant e = none_some e
+-- a proper range is what it is of
+pub proper_same : (x r : Range) → proper x ≡ Some r → x ≡ r
+proper_same x r = go (is_proper x)
+  where
+    go : (test : Bool) → (if test then Some x else None) ≡ Some r → x ≡ r
+    go true e = some_same e
+    go false e = none_some e
 
 -- a number in which nothing is wrong has the range that was defined for it
 pub number_range : (d : Description) (defined : Option Range) (own faults : List Fault) (x r : Range) → defined ≡ Some x → (number_is defined own faults).faults ≡ [] → values_of_all d (number_is defined own faults).meant ≡ Some r → x ≡ r
-number_range d (Some y) [] faults x r p e v = sym (some_same p) ∙ some_same v
+number_range d (Some y) [] faults x r p e v = sym (some_same p) ∙ proper_same y r v
 number_range d (Some y) (f ∷ own) faults x r p e v = cons_none e
 number_range d None own faults x r p e v = none_some p
 
@@ -130,7 +135,7 @@ of_flag d j one m h r n f v e =
 
 -- the range of an operator of numbers is the one of the table
 pub given_range : (d : Description) (place : Place) (o : Op) (a b : Judged) (parts : Reckoning d o a b) → IsReckoning o → (r : Range) → (reckons d place o a b).faults ≡ [] → values_of_all d (reckons d place o a b).meant ≡ Some r → two_range o parts.left parts.right ≡ Some r
-given_range d place o a b parts i r = go (own_range d a) (own_range d b) parts.left_is parts.right_is
+given_range d place o a b parts i r = go (judged_numbers d a) (judged_numbers d b) parts.left_is parts.right_is
   where
     wrong : List Fault
     wrong = kind_wrong (both_numbers a b) place
@@ -146,9 +151,9 @@ given_range d place o a b parts i r = go (own_range d a) (own_range d b) parts.l
     go None y p q f v = none_some p
     go (Some x) None p q f v = none_some q
 
-reckoned_hold : (d : Description) (place : Place) (o : Op) (a b : Expr) (judges : Judges) (worth : Worths) (sight : Sight) → IsReckoning o → ((e : Expr) → Fine (judges e)) → ((e : Expr) → Hold d (judges e) (worth e sight)) → Hold d (reckons d place o (judges a) (judges b)) (both worth o a b sight)
-reckoned_hold d place o a b judges worth sight i fine hold r n f v e =
-    let parts = reckoning d place o (judges a) (judges b) (fine a) (fine b) f in
+reckoned_hold : (d : Description) (place : Place) (o : Op) (a b : Expr) (judges : Judges) (worth : Worths) (sight : Sight) → IsReckoning o → ((e : Expr) → Hold d (judges e) (worth e sight)) → Hold d (reckons d place o (judges a) (judges b)) (both worth o a b sight)
+reckoned_hold d place o a b judges worth sight i hold r n f v e =
+    let parts = reckoning d place o (judges a) (judges b) r f v in
     let first = number_well (number (worth a sight)) (λ x. number (worth b sight) >>= (λ y. done (NumberThing (reckoned o x y)))) n e in
     let second = number_well (number (worth b sight)) (λ y. done (NumberThing (reckoned o first.0 y))) n first.2 in
     let left = hold a parts.left first.0 parts.fine_left (own_values d (judges a) parts.left parts.left_is) first.1 in
@@ -156,33 +161,33 @@ reckoned_hold d place o a b judges worth sight i fine hold r n f v e =
     subst (λ (m : ℤ). IsIn r m) (ok_same {F = EvalFault} second.2)
     (two_in o parts.left parts.right r first.0 second.0 i parts.fair (given_range d place o (judges a) (judges b) parts i r f v) left right)
 
-two_hold : (d : Description) (place : Place) (o : Op) (a b : Expr) (judges : Judges) (worth : Worths) (sight : Sight) → ((e : Expr) → Fine (judges e)) → ((e : Expr) → Hold d (judges e) (worth e sight)) → Hold d (two_judged d place o (judges a) (judges b)) (two worth o a b sight)
-two_hold d place op.Or a b judges worth sight fine hold =
+two_hold : (d : Description) (place : Place) (o : Op) (a b : Expr) (judges : Judges) (worth : Worths) (sight : Sight) → ((e : Expr) → Hold d (judges e) (worth e sight)) → Hold d (two_judged d place o (judges a) (judges b)) (two worth o a b sight)
+two_hold d place op.Or a b judges worth sight hold =
     of_flag d (two_judged d place op.Or (judges a) (judges b)) (two worth op.Or a b sight) refl (then_flag (truth (worth a sight)) _ (λ first. or_flags worth first b sight))
-two_hold d place op.And a b judges worth sight fine hold =
+two_hold d place op.And a b judges worth sight hold =
     of_flag d (two_judged d place op.And (judges a) (judges b)) (two worth op.And a b sight) refl (then_flag (truth (worth a sight)) _ (λ first. and_flags worth first b sight))
-two_hold d place op.Eq a b judges worth sight fine hold =
+two_hold d place op.Eq a b judges worth sight hold =
     of_flag d (two_judged d place op.Eq (judges a) (judges b)) (two worth op.Eq a b sight) refl (then_flag (equal worth (is_null a) (is_null b) a b sight) flag a_flag)
-two_hold d place op.Ne a b judges worth sight fine hold =
+two_hold d place op.Ne a b judges worth sight hold =
     of_flag d (two_judged d place op.Ne (judges a) (judges b)) (two worth op.Ne a b sight) refl (then_flag (equal worth (is_null a) (is_null b) a b sight) _ (λ same. a_flag (not same)))
-two_hold d place op.Lt a b judges worth sight fine hold =
+two_hold d place op.Lt a b judges worth sight hold =
     of_flag d (two_judged d place op.Lt (judges a) (judges b)) (two worth op.Lt a b sight) refl (compared_flags worth op.Lt a b sight (λ x y. (_, refl)))
-two_hold d place op.Le a b judges worth sight fine hold =
+two_hold d place op.Le a b judges worth sight hold =
     of_flag d (two_judged d place op.Le (judges a) (judges b)) (two worth op.Le a b sight) refl (compared_flags worth op.Le a b sight (λ x y. (_, refl)))
-two_hold d place op.Gt a b judges worth sight fine hold =
+two_hold d place op.Gt a b judges worth sight hold =
     of_flag d (two_judged d place op.Gt (judges a) (judges b)) (two worth op.Gt a b sight) refl (compared_flags worth op.Gt a b sight (λ x y. (_, refl)))
-two_hold d place op.Ge a b judges worth sight fine hold =
+two_hold d place op.Ge a b judges worth sight hold =
     of_flag d (two_judged d place op.Ge (judges a) (judges b)) (two worth op.Ge a b sight) refl (compared_flags worth op.Ge a b sight (λ x y. (_, refl)))
-two_hold d place op.Add a b judges worth sight fine hold = reckoned_hold d place op.Add a b judges worth sight tt fine hold
-two_hold d place op.Sub a b judges worth sight fine hold = reckoned_hold d place op.Sub a b judges worth sight tt fine hold
-two_hold d place op.Mul a b judges worth sight fine hold = reckoned_hold d place op.Mul a b judges worth sight tt fine hold
-two_hold d place op.Div a b judges worth sight fine hold = reckoned_hold d place op.Div a b judges worth sight tt fine hold
-two_hold d place op.Rem a b judges worth sight fine hold = reckoned_hold d place op.Rem a b judges worth sight tt fine hold
-two_hold d place op.BitAnd a b judges worth sight fine hold =
-    reckoned_hold d place op.BitAnd a b judges worth sight tt fine hold
-two_hold d place op.BitOr a b judges worth sight fine hold = reckoned_hold d place op.BitOr a b judges worth sight tt fine hold
-two_hold d place op.Shl a b judges worth sight fine hold = reckoned_hold d place op.Shl a b judges worth sight tt fine hold
-two_hold d place op.Shr a b judges worth sight fine hold = reckoned_hold d place op.Shr a b judges worth sight tt fine hold
+two_hold d place op.Add a b judges worth sight hold = reckoned_hold d place op.Add a b judges worth sight tt hold
+two_hold d place op.Sub a b judges worth sight hold = reckoned_hold d place op.Sub a b judges worth sight tt hold
+two_hold d place op.Mul a b judges worth sight hold = reckoned_hold d place op.Mul a b judges worth sight tt hold
+two_hold d place op.Div a b judges worth sight hold = reckoned_hold d place op.Div a b judges worth sight tt hold
+two_hold d place op.Rem a b judges worth sight hold = reckoned_hold d place op.Rem a b judges worth sight tt hold
+two_hold d place op.BitAnd a b judges worth sight hold =
+    reckoned_hold d place op.BitAnd a b judges worth sight tt hold
+two_hold d place op.BitOr a b judges worth sight hold = reckoned_hold d place op.BitOr a b judges worth sight tt hold
+two_hold d place op.Shl a b judges worth sight hold = reckoned_hold d place op.Shl a b judges worth sight tt hold
+two_hold d place op.Shr a b judges worth sight hold = reckoned_hold d place op.Shr a b judges worth sight tt hold
 
 -- ---- branches
 
@@ -200,15 +205,21 @@ pub no_values : {X : Type 0} (d : Description) (test : Bool) (meant joint : Mean
 no_values d true meant joint r none j v = none_some (sym none ∙ ap (λ m. values_of d m) (some_same j) ∙ v)
 no_values d false meant joint r none j v = none_some j
 
+hulled_in : (d : Description) (a b r : Range) (n : ℤ) → proper (hull_of (proper a) (proper b)) ≡ Some r → BranchIn d (Number a) n ⊎ BranchIn d (Number b) n → IsIn r n
+hulled_in d a b r n = go (proper a) (proper b) refl refl
+  where
+    go : (p q : Option Range) → proper a ≡ p → proper b ≡ q → proper (hull_of p q) ≡ Some r → BranchIn d (Number a) n ⊎ BranchIn d (Number b) n → IsIn r n
+    go (Some x) (Some y) p q v (inl h) =
+        let m = h x p in
+        at_range (hull x y) r n (proper_same (hull x y) r v) (record { above = omega (arith, ints, clamps, m.above); below = omega (arith, ints, clamps, m.below) })
+    go (Some x) (Some y) p q v (inr h) =
+        let m = h y q in
+        at_range (hull x y) r n (proper_same (hull x y) r v) (record { above = omega (arith, ints, clamps, m.above); below = omega (arith, ints, clamps, m.below) })
+    go None y p q v h = none_some v
+    go (Some x) None p q v h = none_some v
+
 joined_in : (d : Description) (a b joint : Meant) (r : Range) (n : ℤ) → joined a b ≡ Some joint → values_of d joint ≡ Some r → BranchIn d a n ⊎ BranchIn d b n → IsIn r n
-joined_in d (Number a) (Number b) joint r n j v (inl h) =
-    let hulled = some_same (ap (λ m. values_of d m) (some_same j) ∙ v) in
-    let x = h a refl in
-    at_range (hull a b) r n hulled (record { above = omega (arith, ints, clamps, x.above); below = omega (arith, ints, clamps, x.below) })
-joined_in d (Number a) (Number b) joint r n j v (inr h) =
-    let hulled = some_same (ap (λ m. values_of d m) (some_same j) ∙ v) in
-    let x = h b refl in
-    at_range (hull a b) r n hulled (record { above = omega (arith, ints, clamps, x.above); below = omega (arith, ints, clamps, x.below) })
+joined_in d (Number a) (Number b) joint r n j v h = hulled_in d a b r n (ap (λ m. values_of d m) (some_same j) ∙ v) h
 joined_in d FlagKind FlagKind joint r n j v (inl h) = h r (ap (λ m. values_of d m) (some_same j) ∙ v)
 joined_in d FlagKind FlagKind joint r n j v (inr h) = h r (ap (λ m. values_of d m) (some_same j) ∙ v)
 joined_in d (EnumOf a) (EnumOf b) joint r n j v h = enums_in d a b joint r n (a == b) refl j v h
@@ -226,21 +237,21 @@ joined_in d Raw b joint r n j v h = none_some j
 joined_in d Null b joint r n j v h = none_some j
 
 -- what both branches are holds what either gives
-branches_in : (d : Description) (place : Place) (ranged : Bool) (faults : List Fault) (a b : Option Meant) (r : Range) (n : ℤ) → (branches place ranged faults a b).faults ≡ [] → values_of_all d (branches place ranged faults a b).meant ≡ Some r → ((x : Range) → values_of_all d a ≡ Some x → IsIn x n) ⊎ ((x : Range) → values_of_all d b ≡ Some x → IsIn x n) → IsIn r n
-branches_in d place ranged faults (Some a) (Some b) r n f v h = go (joined a b) refl v
+branches_in : (d : Description) (place : Place) (faults : List Fault) (a b : Option Meant) (r : Range) (n : ℤ) → (branches place faults a b).faults ≡ [] → values_of_all d (branches place faults a b).meant ≡ Some r → ((x : Range) → values_of_all d a ≡ Some x → IsIn x n) ⊎ ((x : Range) → values_of_all d b ≡ Some x → IsIn x n) → IsIn r n
+branches_in d place faults (Some a) (Some b) r n f v h = go (joined a b) refl v
   where
-    go : (joint : Option Meant) → joined a b ≡ joint → values_of_all d (branches_joined place ranged faults joint).meant ≡ Some r → IsIn r n
+    go : (joint : Option Meant) → joined a b ≡ joint → values_of_all d (branches_joined place faults joint).meant ≡ Some r → IsIn r n
     go (Some joint) j w = joined_in d a b joint r n j w h
     go None j w = none_some w
-branches_in d place ranged faults (Some a) None r n f v h = none_some v
-branches_in d place ranged faults None b r n f v h = none_some v
+branches_in d place faults (Some a) None r n f v h = none_some v
+branches_in d place faults None b r n f v h = none_some v
 
 branch_hold : (d : Description) (place : Place) (c a b : Expr) (judges : Judges) (worth : Worths) (sight : Sight) → ((e : Expr) → Hold d (judges e) (worth e sight)) → Hold d (chosen place (judges c) (judges a) (judges b)) (truth (worth c sight) >>= (λ holds. branch worth holds a b sight))
 branch_hold d place c a b judges worth sight hold r n f v e =
     let whole = chosen_faults place (judges c) (judges a) (judges b) f in
     let parts = chosen_parts place (judges c) (judges a) (judges b) whole in
     let taken = number_well (truth (worth c sight)) (λ holds. branch worth holds a b sight) n e in
-    branches_in d place _ _ (judges a).meant (judges b).meant r n f v (go taken.0 taken.2 parts)
+    branches_in d place _ (judges a).meant (judges b).meant r n f v (go taken.0 taken.2 parts)
   where
     go : (holds : Bool) → (number (branch worth holds a b sight)).outcome ≡ Ok n → Chosen (judges c) (judges a) (judges b) → ((x : Range) → values_of_all d (judges a).meant ≡ Some x → IsIn x n) ⊎ ((x : Range) → values_of_all d (judges b).meant ≡ Some x → IsIn x n)
     go true e parts = inl (λ x w. hold a x n parts.fine_a w e)
@@ -248,8 +259,8 @@ branch_hold d place c a b judges worth sight hold r n f v e =
 
 -- ---- the other forms
 
-negated_hold : (d : Description) (place : Place) (a : Expr) (judges : Judges) (worth : Worths) (sight : Sight) → ((e : Expr) → Fine (judges e)) → ((e : Expr) → Hold d (judges e) (worth e sight)) → Hold d (negates d place (judges a)) (number (worth a sight) >>= (λ n. done (NumberThing (neg_ℤ n))))
-negated_hold d place a judges worth sight fine hold r n f v e = go (own_range d (judges a)) refl f v
+negated_hold : (d : Description) (place : Place) (a : Expr) (judges : Judges) (worth : Worths) (sight : Sight) → ((e : Expr) → Hold d (judges e) (worth e sight)) → Hold d (negates d place (judges a)) (number (worth a sight) >>= (λ n. done (NumberThing (neg_ℤ n))))
+negated_hold d place a judges worth sight hold r n f v e = go (judged_numbers d (judges a)) refl f v
   where
     wrong : List Fault
     wrong = kind_wrong (is_kind is_number (judges a).meant) place
@@ -257,7 +268,7 @@ negated_hold d place a judges worth sight fine hold r n f v e = go (own_range d 
     taken : (x : ℤ) × ((number (worth a sight)).outcome ≡ Ok x) × ((number (done {F = EvalFault} (NumberThing (neg_ℤ x)))).outcome ≡ Ok n)
     taken = number_well (number (worth a sight)) (λ n. done (NumberThing (neg_ℤ n))) n e
 
-    go : (x : Option Range) → own_range d (judges a) ≡ x → (number_is (negated_range x) (wrong ++ wrong_if (leaves (negated_range x)) place TooWide) (judges a).faults).faults ≡ [] → values_of_all d (number_is (negated_range x) (wrong ++ wrong_if (leaves (negated_range x)) place TooWide) (judges a).faults).meant ≡ Some r → IsIn r n
+    go : (x : Option Range) → judged_numbers d (judges a) ≡ x → (number_is (negated_range x) (wrong ++ wrong_if (leaves (negated_range x)) place TooWide) (judges a).faults).faults ≡ [] → values_of_all d (number_is (negated_range x) (wrong ++ wrong_if (leaves (negated_range x)) place TooWide) (judges a).faults).meant ≡ Some r → IsIn r n
     go (Some x) p f v =
         let own : List Fault = wrong ++ wrong_if (leaves (negated_range (Some x))) place TooWide in
         let all = both_none own (judges a).faults (sym (number_faults (negated_range (Some x)) own (judges a).faults) ∙ f) in
@@ -265,10 +276,7 @@ negated_hold d place a judges worth sight fine hold r n f v e = go (own_range d 
         let turned = negated x.low x.high taken.0 (lies x taken.0 inner) in
         subst (λ (m : ℤ). IsIn r m) (ok_same {F = EvalFault} taken.2)
         (at_range (range (neg_ℤ x.high) (neg_ℤ x.low)) r (neg_ℤ taken.0) (number_range d (negated_range (Some x)) own (judges a).faults (range (neg_ℤ x.high) (neg_ℤ x.low)) r refl f v) (record { above = turned.above; below = turned.below }))
-    go None p f v =
-        let all = both_none (wrong ++ []) (judges a).faults (sym (number_faults None (wrong ++ []) (judges a).faults) ∙ f) in
-        let kind = not_not _ (not_wrong _ place KindMismatch (both_none wrong [] all.0).0) in
-        none_some (sym p ∙ (operand d (judges a) (fine a all.1) kind).1)
+    go None p f v = none_some (sym (no_number d (wrong ++ []) (judges a).faults) ∙ v)
 
 literal_hold : (d : Description) (place : Place) (given : Lit) → Hold d (literal_is place given) (done (NumberThing (literal given)))
 literal_hold d place (Num negative size) r n f v e =
@@ -300,36 +308,36 @@ cast_hold d place name faults (Some Null) one r n f v e = none_some v
 cast_hold d place name faults None one r n f v e = none_some v
 
 -- an expression, where what it asks for lies in its range
-shape_hold : (d : Description) (scope : Scope) (place : Place) (shape : Shape-F Shape Expr) (sizes : Meant → Node → ℕ) (judges : Judges) (worth : Worths) (sight : Sight) → ((e : Expr) → Fine (judges e)) → ((e : Expr) → Hold d (judges e) (worth e sight)) → (is_asked_shape shape ≡ true → Hold d (shape_judged judges d scope place shape) (shape_worth d sizes worth shape sight)) → Hold d (shape_judged judges d scope place shape) (shape_worth d sizes worth shape sight)
-shape_hold d scope place (Shape-F.Lit given) sizes judges worth sight fine hold asked r n f v e = literal_hold d place given r n f v e
-shape_hold d scope place Shape-F.Null sizes judges worth sight fine hold asked r n f v e = err_ok e
-shape_hold d scope place (Shape-F.Name name) sizes judges worth sight fine hold asked r n f v e = asked refl r n f v e
-shape_hold d scope place Shape-F.CurPos sizes judges worth sight fine hold asked r n f v e = asked refl r n f v e
-shape_hold d scope place Shape-F.Length sizes judges worth sight fine hold asked r n f v e = asked refl r n f v e
-shape_hold d scope place Shape-F.LastItem sizes judges worth sight fine hold asked r n f v e =
+shape_hold : (d : Description) (scope : Scope) (place : Place) (shape : Shape-F Shape Expr) (sizes : Meant → Node → ℕ) (judges : Judges) (worth : Worths) (sight : Sight) → ((e : Expr) → Hold d (judges e) (worth e sight)) → (is_asked_shape shape ≡ true → Hold d (shape_judged judges d scope place shape) (shape_worth d sizes worth shape sight)) → Hold d (shape_judged judges d scope place shape) (shape_worth d sizes worth shape sight)
+shape_hold d scope place (Shape-F.Lit given) sizes judges worth sight hold asked r n f v e = literal_hold d place given r n f v e
+shape_hold d scope place Shape-F.Null sizes judges worth sight hold asked r n f v e = err_ok e
+shape_hold d scope place (Shape-F.Name name) sizes judges worth sight hold asked r n f v e = asked refl r n f v e
+shape_hold d scope place Shape-F.CurPos sizes judges worth sight hold asked r n f v e = asked refl r n f v e
+shape_hold d scope place Shape-F.Length sizes judges worth sight hold asked r n f v e = asked refl r n f v e
+shape_hold d scope place Shape-F.LastItem sizes judges worth sight hold asked r n f v e =
     of_flag d (shape_judged judges d scope place Shape-F.LastItem) (flag sight.last) refl (a_flag sight.last) r n f v e
-shape_hold d scope place Shape-F.SumBytes sizes judges worth sight fine hold asked r n f v e = asked refl r n f v e
-shape_hold d scope place Shape-F.XorBytes sizes judges worth sight fine hold asked r n f v e = asked refl r n f v e
-shape_hold d scope place (Shape-F.Dot a name) sizes judges worth sight fine hold asked r n f v e = asked refl r n f v e
-shape_hold d scope place (Shape-F.LengthOf a) sizes judges worth sight fine hold asked r n f v e = asked refl r n f v e
-shape_hold d scope place (Shape-F.Count a) sizes judges worth sight fine hold asked r n f v e = asked refl r n f v e
-shape_hold d scope place (Shape-F.Cast a name) sizes judges worth sight fine hold asked r n f v e =
+shape_hold d scope place Shape-F.SumBytes sizes judges worth sight hold asked r n f v e = asked refl r n f v e
+shape_hold d scope place Shape-F.XorBytes sizes judges worth sight hold asked r n f v e = asked refl r n f v e
+shape_hold d scope place (Shape-F.Dot a name) sizes judges worth sight hold asked r n f v e = asked refl r n f v e
+shape_hold d scope place (Shape-F.LengthOf a) sizes judges worth sight hold asked r n f v e = asked refl r n f v e
+shape_hold d scope place (Shape-F.Count a) sizes judges worth sight hold asked r n f v e = asked refl r n f v e
+shape_hold d scope place (Shape-F.Cast a name) sizes judges worth sight hold asked r n f v e =
     cast_hold d place name (judges a).faults (judges a).meant (shape_worth d sizes worth (Shape-F.Cast a name) sight) r n f v e
-shape_hold d scope place (Shape-F.Not a) sizes judges worth sight fine hold asked r n f v e =
+shape_hold d scope place (Shape-F.Not a) sizes judges worth sight hold asked r n f v e =
     of_flag d (shape_judged judges d scope place (Shape-F.Not a)) (shape_worth d sizes worth (Shape-F.Not a) sight) refl
     (then_flag (truth (worth a sight)) (λ holds. flag (not holds)) (λ holds. a_flag (not holds))) r n f v e
-shape_hold d scope place (Shape-F.Neg a) sizes judges worth sight fine hold asked r n f v e =
-    negated_hold d place a judges worth sight fine hold r n f v e
-shape_hold d scope place (Shape-F.Two o a b) sizes judges worth sight fine hold asked r n f v e =
-    two_hold d place o a b judges worth sight fine hold r n f v e
-shape_hold d scope place (Shape-F.If c a b) sizes judges worth sight fine hold asked r n f v e =
+shape_hold d scope place (Shape-F.Neg a) sizes judges worth sight hold asked r n f v e =
+    negated_hold d place a judges worth sight hold r n f v e
+shape_hold d scope place (Shape-F.Two o a b) sizes judges worth sight hold asked r n f v e =
+    two_hold d place o a b judges worth sight hold r n f v e
+shape_hold d scope place (Shape-F.If c a b) sizes judges worth sight hold asked r n f v e =
     branch_hold d place c a b judges worth sight hold r n f v e
 
 pub holds_at : (depth : ℕ) (d : Description) (scope : Scope) (sight : Sight) → AskedFit d scope sight → (e : Expr) → Hold d (judged_at depth d scope e) (worth_at depth d (entry_bits d) e sight)
 holds_at zero d scope sight asked e r n f v o = cons_none f
 holds_at (suc depth) d scope sight asked e r n f v o =
     shape_hold d scope (out-Expr e).place (out-Shape (out-Expr e).shape) (entry_bits d) (judged_at depth d scope) (worth_at depth d (entry_bits d)) sight
-    (fine depth d scope) (holds_at depth d scope sight asked)
+    (holds_at depth d scope sight asked)
     (λ is q m g w x. asked (suc depth) e q m is w x) r n f v o
 
 -- what was accepted has no fault

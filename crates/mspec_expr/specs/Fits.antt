@@ -6,15 +6,14 @@ use Rattle.mspec_tree.specs.declared.exprs.Shape.TheOpen.{Shape-F}
 use Rattle.mspec_tree.specs.declared.defs.Description.{Description}
 use Rattle.mspec_expr.specs.declared.kinds.Range.{Range}
 use Rattle.mspec_expr.specs.declared.kinds.Meant.{Meant}
-use Rattle.mspec_expr.specs.declared.kinds.Meant.TheVariants.{Number, Flag, EnumOf}
+use Rattle.mspec_expr.specs.declared.kinds.Meant.TheVariants.{Flag}
 use Rattle.mspec_expr.specs.declared.scopes.Scope.{Scope}
 use Rattle.mspec_expr.specs.declared.scopes.Env.{Env}
 use Rattle.mspec_expr.specs.declared.scopes.MeantName.{MeantName}
 use Rattle.mspec_expr.specs.declared.scopes.NodeName.{NodeName}
-use Rattle.mspec_expr.specs.Kinds.{type_range, base_of}
 use Rattle.mspec_expr.specs.Values.{Seen, Sight, worth_at, number}
 use Rattle.mspec_expr.specs.Sizes.{entry_bits}
-use Rattle.mspec_expr.specs.Ranges.{judged_at, lies_in, range, widest}
+use Rattle.mspec_expr.specs.Ranges.{judged_at, numbers_of, range}
 
 -- the names of a scope with their nodes
 abbrev pub seen_in : List MeantName → List NodeName → List Seen
@@ -41,10 +40,8 @@ pub record IsIn (r : Range) (number : ℤ) : Type 0 where
 
 -- the range of what is a number, an enum value or a flag
 abbrev pub values_of : Description → Meant → Option Range
-values_of d (Number r) = Some r
-values_of d (EnumOf def) = Some (type_range (base_of d def))
 values_of d Flag = Some (range (pos 0) (pos 1))
-values_of d other = None
+values_of d other = numbers_of d other
 
 abbrev pub values_of_all : Description → Option Meant → Option Range
 values_of_all d (Some meant) = values_of d meant
@@ -73,11 +70,3 @@ AskedFit d scope sight =
     → values_of_all d (judged_at depth d scope e).meant ≡ Some r
     → (number (worth_at depth d (entry_bits d) e sight)).outcome ≡ Ok n
     → IsIn r n
-
--- No range of what an expression of the scope can ask for leaves the widest: they are those of types, of at most 64 bits.
-abbrev pub AskedInside : Description → Scope → Type 0
-AskedInside d scope =
-    (depth : ℕ) (e : Expr) (r : Range)
-    → is_asked e ≡ true
-    → values_of_all d (judged_at depth d scope e).meant ≡ Some r
-    → lies_in widest r ≡ true

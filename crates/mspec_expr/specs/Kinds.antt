@@ -1,5 +1,5 @@
 -- What the types of a description are: their widths, their ranges, and what a field of each is to an expression.
-use Rattle.std.specs.Prelude.{ℕ, zero, suc, ℤ, pos, neg_ℤ, ◌-ℤ◌, unsigned_abs, ◌-◌, ◌/◌, ◌^◌, ◌&&◌, not, Bool, true, false, List, [], ◌∷◌, Option, Some, None, int_le, slice_get, position, bytes_eq}
+use Rattle.std.specs.Prelude.{ℕ, zero, suc, ℤ, pos, neg_ℤ, ◌-ℤ◌, unsigned_abs, ◌-◌, ◌/◌, ◌^◌, ◌&&◌, not, Bool, true, false, List, [], ◌∷◌, Option, Some, None, nat_le, if◌then◌else◌, int_le, slice_get, unwrap_or, position, bytes_eq}
 use Rattle.std.specs.Ordering.{int_eq}
 use Rattle.std.specs.List.{flat_map}
 use Rattle.node_tree.specs.Bits.{digit}
@@ -24,6 +24,8 @@ use Rattle.mspec_tree.specs.declared.defs.DefBody.{DefBody}
 use Rattle.mspec_tree.specs.declared.defs.DefBody.TheVariants.{Plain as PlainType, Switched, DataIo, Enum}
 use Rattle.mspec_tree.specs.declared.defs.Description.{Description}
 use Rattle.mspec_expr.specs.declared.kinds.Range.{Range}
+use Rattle.mspec_expr.specs.declared.kinds.Target.{Target}
+use Rattle.mspec_expr.specs.declared.kinds.Target.TheVariants.{Enum as EnumTarget, Group as GroupTarget}
 use Rattle.mspec_expr.specs.declared.kinds.ItemOf.TheVariants.{Bits, GroupOf as ItemGroups}
 use Rattle.mspec_expr.specs.declared.kinds.Meant.{Meant}
 use Rattle.mspec_expr.specs.declared.kinds.Meant.TheVariants.{Number, Flag as FlagKind, EnumOf, GroupOf, ListOf, Bytes, Raw, Null}
@@ -65,6 +67,18 @@ type_range (Uint bits) = unsigned_range bits
 type_range (Int bits) = signed_range bits
 type_range (Float bits) = unsigned_range bits
 
+-- a number may have so many bits
+abbrev pub is_width : (bits : ℕ) → Bool
+is_width bits = nat_le 1 bits && nat_le bits 64
+
+-- the range of a number that has none
+abbrev pub no_range : Range
+no_range = record { low = pos 1; high = pos 0 }
+
+-- the range of a type's numbers; a width that no number may have gives none
+abbrev pub own_range : Simple → Range
+own_range simple = if is_width (width simple) then type_range simple else no_range
+
 abbrev pub in_range : Range → ℤ → Bool
 in_range range number = int_le range.low number && int_le number range.high
 
@@ -90,10 +104,6 @@ abbrev pub def_named : Description → List ℕ → Option ℕ
 def_named d name = position (λ def. bytes_eq def.name name) d.defs
 
 -- what a definition's name stands for in a type's place
-pub data Target : Type 0 where
-  EnumTarget : (def : ℕ) (base : Simple) → Target
-  GroupTarget : (def : ℕ) → Target
-
 abbrev pub body_target : (def : ℕ) → DefBody → Target
 body_target def (Enum base constants) = EnumTarget def base
 body_target def other = GroupTarget def
@@ -175,19 +185,25 @@ entry_fields_in case field other = field ∷ []
 abbrev pub entry_fields : (case : ℕ) → List Field → List Field
 entry_fields case fields = flat_map (λ field. entry_fields_in case field (layer field)) fields
 
--- the cases of a definition's switch
-abbrev pub cases_in : BodyLayer → List Case
-cases_in (Body-F.Switch names cases) = cases
-cases_in other = []
+-- the cases of a switch
+abbrev pub switch_cases : BodyLayer → Option (List Case)
+switch_cases (Body-F.Switch names cases) = Some cases
+switch_cases other = None
 
+-- the cases of the first switch among fields
+abbrev pub first_cases : List Field → List Case
+first_cases [] = []
+first_cases (field ∷ fields) = unwrap_or (switch_cases (layer field)) (first_cases fields)
+
+-- the cases of a definition's switch
 abbrev pub cases_of : Description → (def : ℕ) → List Case
-cases_of d def = flat_map (λ field. cases_in (layer field)) (fields_of d def)
+cases_of d def = first_cases (fields_of d def)
 
 -- what a type is to an expression
 abbrev pub simple_meant : Simple → Meant
 simple_meant Bit = FlagKind
 simple_meant (Float bits) = Raw
-simple_meant other = Number (type_range other)
+simple_meant other = Number (own_range other)
 
 abbrev pub target_meant : Target → Meant
 target_meant (EnumTarget def base) = EnumOf def

@@ -4,6 +4,7 @@ pub mod Counted
 pub mod Desks
 pub mod Examples
 pub mod Fits
+pub mod InTurn
 pub mod Kinds
 pub mod Ranges
 pub mod Reads

@@ -22,6 +22,7 @@ use Rattle.mspec_tree.specs.declared.defs.DefBody.{DefBody}
 use Rattle.mspec_tree.specs.declared.defs.DefBody.TheVariants.{Switched}
 use Rattle.mspec_tree.specs.declared.defs.Description.{Description}
 use Rattle.mspec_expr.specs.declared.kinds.Range.{Range}
+use Rattle.mspec_expr.specs.declared.kinds.Fault.{Fault}
 use Rattle.mspec_expr.specs.declared.kinds.ExprWhy.{ExprWhy}
 use Rattle.mspec_expr.specs.declared.kinds.ExprWhy.TheVariants.{TooWide, DivisorMayBeZero, OperandRange, UnknownName, KindMismatch}
 use Rattle.mspec_expr.specs.declared.kinds.ItemOf.{ItemOf}
@@ -30,7 +31,9 @@ use Rattle.mspec_expr.specs.declared.kinds.Meant.{Meant}
 use Rattle.mspec_expr.specs.declared.kinds.Meant.TheVariants.{Number, Flag as FlagKind, EnumOf, GroupOf, ListOf, Bytes, Raw, Null}
 use Rattle.mspec_expr.specs.declared.scopes.Scope.{Scope}
 use Rattle.mspec_expr.specs.declared.scopes.MeantName.{MeantName}
-use Rattle.mspec_expr.specs.Kinds.{literal, layer, binary_digits, type_range, base_of, Target, EnumTarget, target_named, fields_of, constants_of, params_of, cases_of, entry_fields, field_meant, ref_meant}
+use Rattle.mspec_expr.specs.declared.kinds.Target.{Target}
+use Rattle.mspec_expr.specs.declared.kinds.Target.TheVariants.{Enum as EnumTarget}
+use Rattle.mspec_expr.specs.Kinds.{literal, layer, binary_digits, no_range, own_range, base_of, target_named, fields_of, constants_of, params_of, cases_of, entry_fields, field_meant, ref_meant}
 use Rattle.mspec_expr.specs.Values.{deepest}
 
 -- ---- ranges of numbers
@@ -44,6 +47,14 @@ widest = range (neg_ℤ (pos (2 ^ 63))) (pos (2 ^ 64 - 1))
 
 abbrev pub lies_in : Range → Range → Bool
 lies_in outer inner = int_le outer.low inner.low && int_le inner.high outer.high
+
+-- a range that holds a number, and no number past the widest
+abbrev pub is_proper : Range → Bool
+is_proper r = int_le r.low r.high && lies_in widest r
+
+-- what isn't a proper range is none
+abbrev pub proper : Range → Option Range
+proper r = if is_proper r then Some r else None
 
 abbrev pub is_negative : Range → Bool
 is_negative r = int_lt r.low (pos 0)
@@ -107,10 +118,6 @@ takes_no_negative o = shifts o
 
 -- ---- what is wrong
 
-pub record Fault : Type 0 where
-  pub place : Place
-  pub why : ExprWhy
-
 abbrev pub wrong_if : Bool → Place → ExprWhy → List Fault
 wrong_if true place why = record { place = place; why = why } ∷ []
 wrong_if false place why = []
@@ -130,48 +137,45 @@ two_wrong o a b place =
 
 -- ---- what an expression is
 
--- What an expression is, if it is anything; a number that isn't `ranged` has no range of its own. `optional` is whether it is an
--- optional field. And all that is wrong in it.
+-- What an expression is, if it is anything. `optional` is whether it is an optional field. And all that is wrong in it.
 pub record Judged : Type 0 where
   pub meant : Option Meant
-  pub ranged : Bool
   pub optional : Bool
   pub faults : List Fault
 
 -- it is this, without a fault of its own
 abbrev pub is : Meant → List Fault → Judged
-is meant faults = record { meant = Some meant; ranged = true; optional = false; faults = faults }
+is meant faults = record { meant = Some meant; optional = false; faults = faults }
 
 abbrev pub field_is : Meant → (optional : Bool) → List Fault → Judged
-field_is meant optional faults = record { meant = Some meant; ranged = true; optional = optional; faults = faults }
+field_is meant optional faults = record { meant = Some meant; optional = optional; faults = faults }
 
 -- it is nothing, for this reason
 abbrev pub nothing : Place → ExprWhy → List Fault → Judged
 nothing place why faults =
-    record { meant = None; ranged = false; optional = false; faults = record { place = place; why = why } ∷ faults }
+    record { meant = None; optional = false; faults = record { place = place; why = why } ∷ faults }
 
 -- it is nothing, since a part of it is nothing
 abbrev pub unknown : List Fault → Judged
-unknown faults = record { meant = None; ranged = false; optional = false; faults = faults }
+unknown faults = record { meant = None; optional = false; faults = faults }
 
 -- it is a number of this range, unless none is defined or something is wrong with it
 abbrev pub number_is : Option Range → (own faults : List Fault) → Judged
 number_is (Some r) [] faults = is (Number r) faults
-number_is defined own faults =
-    record { meant = Some (Number widest); ranged = false; optional = false; faults = own ++ faults }
+number_is defined own faults = is (Number no_range) (own ++ faults)
 
--- the range of a number or of an enum's numbers, if it has one of its own
+-- the range of a number or of an enum's numbers, if it has one
 abbrev pub numbers_of : Description → Meant → Option Range
-numbers_of d (Number r) = Some r
-numbers_of d (EnumOf def) = Some (type_range (base_of d def))
+numbers_of d (Number r) = proper r
+numbers_of d (EnumOf def) = proper (own_range (base_of d def))
 numbers_of d other = None
 
 abbrev pub meant_numbers : Description → Option Meant → Option Range
 meant_numbers d (Some meant) = numbers_of d meant
 meant_numbers d None = None
 
-abbrev pub own_range : Description → Judged → Option Range
-own_range d a = if a.ranged then meant_numbers d a.meant else None
+abbrev pub judged_numbers : Description → Judged → Option Range
+judged_numbers d a = meant_numbers d a.meant
 
 -- an operand that is nothing is of every kind
 abbrev pub is_kind : (Meant → Bool) → Option Meant → Bool
@@ -319,8 +323,8 @@ negated_range (Some r) = Some (range (neg_ℤ r.high) (neg_ℤ r.low))
 negated_range None = None
 
 abbrev pub negated : Description → Place → Judged → Judged
-negated d place a = number_is (negated_range (own_range d a))
-    (kind_wrong (is_kind is_number a.meant) place ++ wrong_if (leaves (negated_range (own_range d a))) place TooWide)
+negated d place a = number_is (negated_range (judged_numbers d a))
+    (kind_wrong (is_kind is_number a.meant) place ++ wrong_if (leaves (negated_range (judged_numbers d a))) place TooWide)
     a.faults
 
 -- an operator that takes and gives numbers
@@ -334,7 +338,7 @@ both_numbers a b = is_kind is_number a.meant && is_kind is_number b.meant
 
 abbrev pub reckoned : Description → Place → Op → Judged → Judged → Judged
 reckoned d place o a b =
-    reckoned_ranges place o (kind_wrong (both_numbers a b) place) (a.faults ++ b.faults) (own_range d a) (own_range d b)
+    reckoned_ranges place o (kind_wrong (both_numbers a b) place) (a.faults ++ b.faults) (judged_numbers d a) (judged_numbers d b)
 
 abbrev pub both_flags : Judged → Judged → Bool
 both_flags a b = is_kind is_flag a.meant && is_kind is_flag b.meant
@@ -361,13 +365,17 @@ two_judged d place o a b = reckoned d place o a b
 abbrev pub hull : Range → Range → Range
 hull a b = range (int_min a.low b.low) (int_max a.high b.high)
 
+abbrev pub hull_of : Option Range → Option Range → Range
+hull_of (Some a) (Some b) = hull a b
+hull_of a b = no_range
+
 abbrev pub same_item : ItemOf → ItemOf → Bool
 same_item (Bits a) (Bits b) = a == b
 same_item (ItemGroups a counted) (ItemGroups b other) = a == b
 same_item a b = false
 
 abbrev pub joined : Meant → Meant → Option Meant
-joined (Number a) (Number b) = Some (Number (hull a b))
+joined (Number a) (Number b) = Some (Number (hull_of (proper a) (proper b)))
 joined FlagKind FlagKind = Some FlagKind
 joined (EnumOf a) (EnumOf b) = if a == b then Some (EnumOf a) else None
 joined (GroupOf a case) (GroupOf b other) = if a == b then Some (GroupOf a (if case == other then case else 0)) else None
@@ -376,19 +384,17 @@ joined Bytes Bytes = Some Bytes
 joined Raw Raw = Some Raw
 joined a b = None
 
-abbrev pub branches_joined : Place → (ranged : Bool) → List Fault → Option Meant → Judged
-branches_joined place ranged faults (Some meant) =
-    record { meant = Some meant; ranged = ranged; optional = false; faults = faults }
-branches_joined place ranged faults None = nothing place KindMismatch faults
+abbrev pub branches_joined : Place → List Fault → Option Meant → Judged
+branches_joined place faults (Some meant) = is meant faults
+branches_joined place faults None = nothing place KindMismatch faults
 
-abbrev pub branches : Place → (ranged : Bool) → List Fault → Option Meant → Option Meant → Judged
-branches place ranged faults (Some a) (Some b) = branches_joined place ranged faults (joined a b)
-branches place ranged faults a b = unknown faults
+abbrev pub branches : Place → List Fault → Option Meant → Option Meant → Judged
+branches place faults (Some a) (Some b) = branches_joined place faults (joined a b)
+branches place faults a b = unknown faults
 
 abbrev pub chosen : Place → Judged → Judged → Judged → Judged
 chosen place c a b =
-    branches place (a.ranged && b.ranged) (kind_wrong (is_kind is_flag c.meant) place ++ c.faults ++ a.faults ++ b.faults)
-    a.meant b.meant
+    branches place (kind_wrong (is_kind is_flag c.meant) place ++ c.faults ++ a.faults ++ b.faults) a.meant b.meant
 
 -- ---- an expression, by its outermost form
 

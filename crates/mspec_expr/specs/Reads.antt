@@ -25,7 +25,9 @@ use Rattle.mspec_tree.specs.declared.defs.Param.{Param}
 use Rattle.mspec_tree.specs.declared.defs.Description.{Description}
 use Rattle.mspec_expr.specs.declared.kinds.Meant.TheVariants.{EnumOf}
 use Rattle.mspec_expr.specs.Counted.{done, counted, faulted, in_turn, ◌>>=◌, ◌>>◌}
-use Rattle.mspec_expr.specs.Kinds.{Target, EnumTarget, GroupTarget, target_named, BodyLayer, layer, literal, of_kind, kind_node, ref_meant, field_meant, fields_of, constants_of, params_of, order_of, case_fields, number_is}
+use Rattle.mspec_expr.specs.declared.kinds.Target.{Target}
+use Rattle.mspec_expr.specs.declared.kinds.Target.TheVariants.{Enum as EnumTarget, Group as GroupTarget}
+use Rattle.mspec_expr.specs.Kinds.{target_named, BodyLayer, layer, literal, of_kind, kind_node, ref_meant, field_meant, fields_of, constants_of, params_of, order_of, case_fields, number_is}
 use Rattle.mspec_expr.specs.Values.{Thing, Entry, Seen, Worth, named, thing_number}
 use Rattle.mspec_expr.specs.Sizes.{count_limit, depth_limit}
 use Rattle.mspec_expr.specs.Contexts.{Fault, Bad, Outcome, Part, Context, at_start, bad, must, sight, sight_with_sums, read_why, evaluated, bits_at, begun, number_read, bitless, behind, seen_too, opened, closed, span}

@@ -8,7 +8,9 @@ use Rattle.mspec_tree.specs.declared.exprs.Ref.{Ref}
 use Rattle.mspec_tree.specs.declared.exprs.Ref.TheVariants.{Plain, Named}
 use Rattle.mspec_tree.specs.declared.fields.Body.TheOpen.{Body-F}
 use Rattle.mspec_tree.specs.declared.defs.Description.{Description}
-use Rattle.mspec_expr.specs.Kinds.{Target, EnumTarget, GroupTarget, target_named, BodyLayer, layer, of_type, fields_of, cases_of, entry_fields}
+use Rattle.mspec_expr.specs.declared.kinds.Target.{Target}
+use Rattle.mspec_expr.specs.declared.kinds.Target.TheVariants.{Enum as EnumTarget, Group as GroupTarget}
+use Rattle.mspec_expr.specs.Kinds.{target_named, BodyLayer, layer, of_type, fields_of, cases_of, entry_fields}
 use Rattle.mspec_expr.specs.Values.{NodeLayer}
 use Rattle.mspec_expr.specs.Sizes.{node_limit, depth_limit}
 

@@ -22,7 +22,9 @@ use Rattle.mspec_tree.specs.declared.fields.Case.{Case}
 use Rattle.mspec_tree.specs.declared.defs.Param.{Param}
 use Rattle.mspec_tree.specs.declared.defs.Description.{Description}
 use Rattle.mspec_expr.specs.Counted.{done, fails, counted, faulted, required, in_turn, ◌>>=◌, ◌>>◌}
-use Rattle.mspec_expr.specs.Kinds.{Target, EnumTarget, GroupTarget, target_named, BodyLayer, layer, literal, literal_node, number_node, ref_simple, of_type, of_kind, kind_node, field_meant, items_meant, fields_of, params_of, order_of, case_fields, number_is}
+use Rattle.mspec_expr.specs.declared.kinds.Target.{Target}
+use Rattle.mspec_expr.specs.declared.kinds.Target.TheVariants.{Enum as EnumTarget, Group as GroupTarget}
+use Rattle.mspec_expr.specs.Kinds.{target_named, BodyLayer, layer, literal, literal_node, number_node, ref_simple, of_type, of_kind, kind_node, field_meant, items_meant, fields_of, params_of, order_of, case_fields, number_is}
 use Rattle.mspec_expr.specs.Values.{NodeLayer, Seen, bytes_over, is_absent}
 use Rattle.mspec_expr.specs.Sizes.{Measure, measure, entry_bits, node_limit, bit_limit, count_limit, depth_limit}
 use Rattle.mspec_expr.specs.Reads.{params_seen, first_case}

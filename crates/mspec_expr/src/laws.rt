@@ -13,18 +13,17 @@ ghost use Rattle.mspec_expr.specs.Reads.{reads};
 ghost use Rattle.mspec_expr.specs.Values.{Sight, worth_at};
 ghost use Rattle.mspec_expr.specs.Sizes.{value};
 ghost use Rattle.mspec_expr.specs.Ranges.{range_found, lies_in, widest};
-ghost use Rattle.mspec_expr.specs.Fits.{IsIn, AskedFit, AskedInside, values_of};
+ghost use Rattle.mspec_expr.specs.Fits.{IsIn, AskedFit, values_of};
 ghost use Rattle.mspec_expr.specs.Stream.{Stream, Ending};
 ghost use Rattle.mspec_expr.specs.Worked.{Expressions, Optionals, Numbers, Switches, CountArrays, LengthArrays, Arguments, Checksums, Paddings, Lengths, Depths, Casts, Refusals};
 
 /// Where nothing is wrong with an expression, its value lies in its range, wherever all that it asks for lies in its own. No
-/// such range leaves -2^63 to 2^64 - 1, where no range of what it asks for does.
+/// such range leaves -2^63 to 2^64 - 1.
 pub fn values_lie_in_ranges()
     ensures values { (d : Description) (scope : Scope) (sight : Sight) (e : Expr) (meant : Meant) (r : Range) (n : ℤ)
         → AskedFit d scope sight → range_found d scope e ≡ Ok meant → values_of d meant ≡ Some r
         → (value d e sight).outcome ≡ Ok n → IsIn r n }
-    ensures ranges { (d : Description) (scope : Scope) (e : Expr) (meant : Meant) (r : Range)
-        → AskedInside d scope → range_found d scope e ≡ Ok meant → values_of d meant ≡ Some r → lies_in widest r ≡ true }
+    ensures ranges { (d : Description) (meant : Meant) (r : Range) → values_of d meant ≡ Some r → lies_in widest r ≡ true }
 {}
 
 /// An expression is worth the same at each depth that is enough for it, so the greatest depth of a description's expressions

@@ -1,17 +1,12 @@
 -- Each part of a description has a lexeme at least.
-use Rattle.std.proofs.Common.{ℕ, suc, ◌≡◌, ◌≤◌, ◌<◌, ◌+◌, List, [], ◌∷◌, Option, Some, None, length, arith}
+use Rattle.std.proofs.Common.{ℕ, ◌≤◌, ◌<◌, List, ◌∷◌, Option, length, arith}
 use Rattle.mspec_tree.specs.declared.words.Place.{Place}
 use Rattle.mspec_tree.specs.declared.words.ByteOrder.{ByteOrder}
-use Rattle.mspec_tree.specs.declared.words.ByteOrder.TheVariants.{Big, Little}
 use Rattle.mspec_tree.specs.declared.words.Lit.{Lit}
-use Rattle.mspec_tree.specs.declared.words.Lit.TheVariants.{Num, Flag}
 use Rattle.mspec_tree.specs.declared.words.Key.{Key}
-use Rattle.mspec_tree.specs.declared.words.Key.TheVariants as tree_key
 use Rattle.mspec_tree.specs.declared.words.Simple.{Simple}
-use Rattle.mspec_tree.specs.declared.words.Simple.TheVariants as tree_simple
 use Rattle.mspec_tree.specs.declared.exprs.Expr.{Expr}
 use Rattle.mspec_tree.specs.declared.exprs.Ref.{Ref}
-use Rattle.mspec_tree.specs.declared.exprs.Ref.TheVariants.{Plain, Named}
 use Rattle.mspec_tree.specs.declared.fields.Field.{Field}
 use Rattle.mspec_tree.specs.declared.fields.Body.{Body}
 use Rattle.mspec_tree.specs.declared.fields.Case.{Case}
@@ -19,13 +14,9 @@ use Rattle.mspec_tree.specs.declared.defs.Param.{Param}
 use Rattle.mspec_tree.specs.declared.defs.Constant.{Constant}
 use Rattle.mspec_tree.specs.declared.defs.Def.{Def}
 use Rattle.mspec_lexer.specs.Lexemes.{Lexeme}
-use Rattle.mspec_lexer.specs.declared.tokens.Symbol.{Symbol}
-use Rattle.mspec_lexer.specs.declared.tokens.Symbol.TheVariants as sign
-use Rattle.mspec_grammar.specs.Meanings.{Meaning, meaning, Number, Sign, Taken, Name}
-use Rattle.mspec_grammar.specs.declared.words.Word.TheVariants as word
 use Rattle.mspec_grammar.specs.Expressions.{CaseName, Stands, Quoted, tighter, condition, two, negation, minus, path, length_of, null, name, cur_pos, last_item, sum_bytes, xor_bytes, count, cast, grouped}
 use Rattle.mspec_grammar.specs.Expressions as expression
-use Rattle.mspec_grammar.specs.Parts.{Many, Listed, IsNamed, IsLit, IsQuotedLit, IsConstLit, IsKey, IsSimple, IsTypeName, IsKind, IsRef, IsParam, IsParams, IsOrder, IsAttributes, IsConstant, width, order_name, none, more, last, named, number, negative, yes, no, quoted, bare, any, quoted_any, literal, constant, bit, byte, uint, int, float, plain, kind, arguments, param, some, given}
+use Rattle.mspec_grammar.specs.Parts.{Many, Listed, IsNamed, IsLit, IsQuotedLit, IsConstLit, IsKey, IsSimple, IsKind, IsRef, IsParam, IsParams, IsOrder, IsAttributes, IsConstant, none, more, last, named, number, negative, yes, no, quoted, bare, any, quoted_any, literal, constant, bit, byte, uint, int, float, plain, kind, arguments, param, some, given}
 use Rattle.mspec_grammar.specs.Trees as trees
 use Rattle.mspec_grammar.specs.Trees.{IsBody, IsField, IsKeys, IsCase, IsSwitch, IsMember, IsHead, IsDef, Tree, simple, discriminator, const, reserved, implicit, virtual, optional, checksum, padding, by_count, by_length, field, case, switch, head, type_, discriminated, data_io, enum}
 

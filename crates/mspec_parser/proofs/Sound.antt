@@ -1,5 +1,5 @@
 -- What is read of literals, types, parameters, byte orders and constants is in the grammar.
-use Rattle.std.proofs.Common.{ℕ, zero, suc, ◌≡◌, ◌⊎◌, inl, inr, ◌≤◌, Bool, true, false, cond, List, [], ◌∷◌, codes, Option, Some, None, Result, Ok, Err, length, refl, sym, ap, subst, ◌∙◌}
+use Rattle.std.proofs.Common.{ℕ, ◌≡◌, inl, inr, ◌≤◌, Bool, true, false, cond, List, [], ◌∷◌, codes, Option, Some, None, Ok, Err, refl, sym, ap, subst, ◌∙◌}
 use Rattle.std.specs.Str.{bytes_eq}
 use Rattle.std.proofs.lemmas.Slice.Eq.{bytes_eq-Decides}
 use Rattle.mspec_tree.specs.declared.words.Place.{Place}
@@ -14,35 +14,26 @@ use Rattle.mspec_tree.specs.declared.words.Simple.TheVariants as tree_simple
 use Rattle.mspec_tree.specs.declared.exprs.Expr.{Expr}
 use Rattle.mspec_tree.specs.declared.exprs.Ref.{Ref}
 use Rattle.mspec_tree.specs.declared.exprs.Ref.TheVariants.{Plain, Named}
-use Rattle.mspec_tree.specs.declared.fields.Field.{Field}
-use Rattle.mspec_tree.specs.declared.fields.Body.{Body}
-use Rattle.mspec_tree.specs.declared.fields.Case.{Case}
-use Rattle.mspec_tree.specs.declared.defs.Param.{Param}
-use Rattle.mspec_tree.specs.declared.defs.Constant.{Constant}
-use Rattle.mspec_tree.specs.declared.defs.Def.{Def}
 use Rattle.mspec_lexer.specs.Lexemes.{Lexeme}
-use Rattle.mspec_lexer.specs.declared.tokens.Symbol.{Symbol}
 use Rattle.mspec_lexer.specs.declared.tokens.Symbol.TheVariants as sign
 use Rattle.mspec_grammar.specs.Meanings.{Meaning, meaning, Number, Sign, Taken, Name}
 use Rattle.mspec_grammar.specs.declared.words.Word.TheVariants as word
 use Rattle.mspec_grammar.specs.Expressions.{Quoted}
-use Rattle.mspec_grammar.specs.Parts.{Many, Listed, IsNamed, IsLit, IsQuotedLit, IsConstLit, IsKey, IsSimple, IsTypeName, IsKind, IsRef, IsParam, IsParams, IsOrder, IsAttributes, IsConstant, width, order_name, none, more, last, named, number, negative, yes, no, quoted, bare, any, quoted_any, literal, constant, bit, byte, uint, int, float, plain, kind, arguments, param, some, given}
+use Rattle.mspec_grammar.specs.Parts.{IsLit, IsQuotedLit, IsConstLit, IsKey, IsSimple, IsTypeName, IsKind, IsRef, IsParam, IsParams, IsOrder, IsAttributes, IsConstant, width, order_name, none, named, number, negative, yes, no, quoted, bare, any, quoted_any, literal, constant, bit, byte, uint, int, float, plain, kind, arguments, param, some, given}
 use Rattle.mspec_grammar.specs.Trees as trees
 use Rattle.mspec_grammar.specs.Trees.{IsBody, IsField, IsKeys, IsCase, IsSwitch, IsMember, IsHead, IsDef, Tree, simple, discriminator, const, reserved, implicit, virtual, optional, checksum, padding, by_count, by_length, field, case, switch, head, type_, discriminated, data_io, enum}
 use Rattle.mspec_tree.specs.Form.{left_out_types, is_one_of}
 use Rattle.mspec_grammar.specs.declared.words.Word.{Word}
-use Rattle.mspec_grammar.specs.declared.faults.ParseWhy.{ParseWhy}
 use Rattle.mspec_grammar.specs.declared.faults.ParseWhy.TheVariants.{Unexpected, LeftOut}
-use Rattle.mspec_quotes.specs.Machine.{Stopped, read_quoted}
+use Rattle.mspec_quotes.specs.Machine.{read_quoted}
 use Rattle.mspec_quotes.proofs.QuoteLaws.{quoted-read}
-use Rattle.mspec_parser.specs.declared.words.Mark.{Mark}
 use Rattle.mspec_parser.specs.declared.words.Mark.TheVariants as mark
 use Rattle.mspec_parser.specs.declared.words.LitStart.{LitStart}
 use Rattle.mspec_parser.specs.declared.words.LitStart.TheVariants as start
 use Rattle.mspec_parser.specs.Words.{order_word_of}
-use Rattle.mspec_parser.specs.Readers.{Read, ◌>>=◌, one, begins_with, many, listed, is_mark, is_word, mark_at, word_at, name_at, number_at}
+use Rattle.mspec_parser.specs.Readers.{begins_with, is_mark, is_word}
 use Rattle.mspec_parser.specs.Small.{or_unexpected, lit_start_of, pick_lit, lit_from, lit_at, quoted_lit_at, const_lit_at, KeyStart, any as of_any, of_lit, of_name, or_literal, pick_key, pick_star, key_from, key_inside, key_at, begins_key, keys_at, is_type_word, pick_simple, simple_from, simple_at, KindStart, by_word, by_name, pick_kind, kind_from, kind_at, args_inside, args_at, ref_from, ref_at, param_at, params_inside, params_at, pick_order, order_inside, order_at, attributes_inside, attributes_at, constant_at}
-use Rattle.mspec_parser.proofs.Sounds.{Sound, through, Gave, gives, Then, and_then, either, One, one-sound, Marked, mark-sound, Worded, word-sound, NamedAt, name-sound, NumberAt, number-sound, many-sound, listed-sound}
+use Rattle.mspec_parser.proofs.Sounds.{Sound, through, gives, and_then, either, one-sound, mark-sound, word-sound, name-sound, number-sound, listed-sound}
 
 -- ---- literals
 

@@ -1,38 +1,22 @@
 -- What is read of fields, switches, definitions and whole descriptions is in the grammar.
-use Rattle.std.proofs.Common.{ℕ, zero, suc, ◌≡◌, ◌≤◌, ◌<◌, ◌+◌, Bool, true, false, cond, List, [], ◌∷◌, ◌++◌, codes, Option, Some, None, Result, Ok, Err, length, refl, sym, ◌⊎◌, inl, inr, ap, subst, ◌∙◌, arith}
+use Rattle.std.proofs.Common.{ℕ, ◌≡◌, ◌≤◌, Bool, true, false, cond, List, [], ◌∷◌, codes, Option, Some, None, Result, Ok, Err, refl, ◌⊎◌, inl, inr, ap, ◌∙◌}
 use Rattle.mspec_tree.specs.declared.words.Place.{Place}
-use Rattle.mspec_tree.specs.declared.words.ByteOrder.{ByteOrder}
-use Rattle.mspec_tree.specs.declared.words.ByteOrder.TheVariants.{Big, Little}
-use Rattle.mspec_tree.specs.declared.words.Lit.{Lit}
-use Rattle.mspec_tree.specs.declared.words.Lit.TheVariants.{Num, Flag}
-use Rattle.mspec_tree.specs.declared.words.Key.{Key}
-use Rattle.mspec_tree.specs.declared.words.Key.TheVariants as tree_key
-use Rattle.mspec_tree.specs.declared.words.Simple.{Simple}
-use Rattle.mspec_tree.specs.declared.words.Simple.TheVariants as tree_simple
 use Rattle.mspec_tree.specs.declared.exprs.Expr.{Expr}
 use Rattle.mspec_tree.specs.declared.exprs.Ref.{Ref}
-use Rattle.mspec_tree.specs.declared.exprs.Ref.TheVariants.{Plain, Named}
 use Rattle.mspec_tree.specs.declared.fields.Field.{Field, roll-Field}
-use Rattle.mspec_tree.specs.declared.fields.Body.{Body}
-use Rattle.mspec_tree.specs.declared.fields.Case.{Case, roll-Case}
-use Rattle.mspec_tree.specs.declared.defs.Param.{Param}
-use Rattle.mspec_tree.specs.declared.defs.Constant.{Constant}
+use Rattle.mspec_tree.specs.declared.fields.Case.{roll-Case}
 use Rattle.mspec_tree.specs.declared.defs.Def.{Def}
 use Rattle.mspec_lexer.specs.Lexemes.{Lexeme}
-use Rattle.mspec_lexer.specs.declared.tokens.Symbol.{Symbol}
 use Rattle.mspec_lexer.specs.declared.tokens.Symbol.TheVariants as sign
 use Rattle.mspec_grammar.specs.Meanings.{Meaning, meaning, Number, Sign, Taken, Name}
-use Rattle.mspec_grammar.specs.declared.words.Word.TheVariants as word
 use Rattle.mspec_grammar.specs.Expressions.{Quoted}
-use Rattle.mspec_grammar.specs.Parts.{Many, Listed, IsNamed, IsLit, IsQuotedLit, IsConstLit, IsKey, IsSimple, IsTypeName, IsKind, IsRef, IsParam, IsParams, IsOrder, IsAttributes, IsConstant, width, order_name, none, more, last, named, number, negative, yes, no, quoted, bare, any, quoted_any, literal, constant, bit, byte, uint, int, float, plain, kind, arguments, param, some, given}
-use Rattle.mspec_grammar.specs.Trees.{IsBody, IsField, IsKeys, IsCase, IsSwitch, IsMember, IsHead, IsDef, Tree, simple, discriminator, const, reserved, implicit, virtual, optional, checksum, padding, by_count, by_length, field, case, switch, head, type_, discriminated, data_io, enum}
-use Rattle.mspec_tree.specs.declared.defs.DefBody.{DefBody}
+use Rattle.mspec_grammar.specs.Parts.{Many, IsNamed, IsSimple, IsKind, IsRef, IsParams, IsConstant, named}
+use Rattle.mspec_grammar.specs.Trees.{IsBody, IsField, IsCase, IsSwitch, IsMember, IsHead, IsDef, Tree, simple, discriminator, const, reserved, implicit, virtual, optional, checksum, padding, by_count, by_length, field, case, switch, head, type_, discriminated, data_io, enum}
 use Rattle.mspec_tree.specs.declared.defs.DefBody.TheVariants as tree_def
 use Rattle.mspec_tree.specs.declared.fields.Body.TheVariants as tree_body
 use Rattle.mspec_tree.specs.declared.defs.Description.{Description}
 use Rattle.mspec_grammar.specs.declared.faults.ParseWhy.{ParseWhy}
-use Rattle.mspec_quotes.specs.Machine.{Stopped, read_quoted}
-use Rattle.mspec_parser.specs.declared.words.Mark.{Mark}
+use Rattle.mspec_quotes.specs.Machine.{Stopped}
 use Rattle.mspec_parser.specs.declared.words.Mark.TheVariants as mark
 use Rattle.mspec_parser.specs.declared.words.FieldWord.{FieldWord}
 use Rattle.mspec_parser.specs.declared.words.FieldWord.TheVariants as field_word
@@ -42,9 +26,8 @@ use Rattle.mspec_parser.specs.declared.words.DefWord.{DefWord}
 use Rattle.mspec_parser.specs.declared.words.DefWord.TheVariants as def_word
 use Rattle.mspec_parser.specs.declared.fields.NamedBody.{NamedBody}
 use Rattle.mspec_parser.specs.declared.definitions.Head.{Head}
-use Rattle.mspec_parser.specs.Words.{symbol_of, field_word_of, array_word_of, def_word_of}
-use Rattle.mspec_parser.specs.Readers.{Read, ◌>>=◌, front_of, one, begins_with, many, listed, is_mark, is_word, mark_at, word_at, name_at}
-use Rattle.mspec_parser.specs.Small.{const_lit_at}
+use Rattle.mspec_parser.specs.Words.{field_word_of, array_word_of, def_word_of}
+use Rattle.mspec_parser.specs.Readers.{Read, ◌>>=◌, front_of, is_mark, is_word, name_at}
 use Rattle.mspec_parser.specs.Fields.{pick_field, pick_array, ref_name_at, kind_name_at, simple_name_at, simple_body, discriminator_body, const_body, reserved_body, implicit_body, virtual_body, optional_body, checksum_body, padding_body, array_body, body_from, field_from, field_at, fields_at, case_at, cases_at, bare_name_at, switch_from, switch_at, of_field, of_switch, pick_member, or_member, member_from, member_at, members_at}
 use Rattle.mspec_parser.specs.Defs.{constants_at, pick_def, head_at, enum_head_at, type_from, discriminated_from, data_io_from, enum_from, def_from, def_at, defs_at, description_at}
 use Rattle.std.specs.Str.{bytes_eq}
@@ -56,7 +39,7 @@ use Rattle.mspec_parser.specs.Words.{first_field_words, other_field_words, or_wo
 use Rattle.mspec_parser.specs.Small.{or_unexpected}
 use Rattle.mspec_parser.specs.Fields.{named_body, array_of, field_or_left_out, array_or_left_out, MemberWord}
 use Rattle.mspec_parser.specs.Defs.{def_of, ended}
-use Rattle.mspec_parser.proofs.Sounds.{Sound, through, Gave, gives, Then, and_then, either, One, one-sound, Marked, mark-sound, Worded, word-sound, NamedAt, name-sound, many-sound, listed-sound}
+use Rattle.mspec_parser.proofs.Sounds.{Sound, through, gives, and_then, one-sound, mark-sound, word-sound, name-sound, many-sound, listed-sound}
 use Rattle.mspec_parser.proofs.Sound.{quoted_lit-sound, const_lit-sound, keys-sound, simple-sound, kind-sound, quoted-sound, ref-sound, params-sound, order-sound, constant-sound}
 
 -- ---- a type and a name

@@ -1,6 +1,5 @@
 -- What is read is in the grammar: how the soundness of parts makes that of the whole.
-use Rattle.std.proofs.Common.{ℕ, zero, suc, ◌≡◌, ◌==◌, ◌⊎◌, inl, inr, Bool, true, false, cond, List, [], ◌∷◌, codes, Option, Some, None, Result, Ok, Err, length, refl, sym, ap, subst, ◌∙◌}
-use Rattle.std.specs.Str.{bytes_eq}
+use Rattle.std.proofs.Common.{ℕ, zero, suc, ◌≡◌, ◌==◌, ◌⊎◌, inl, inr, Bool, true, false, cond, List, [], ◌∷◌, Option, Some, None, Result, Ok, Err, length, refl, sym, ap, subst, ◌∙◌}
 use Rattle.std.proofs.lemmas.Slice.Eq.{bytes_eq-Decides}
 use Rattle.mspec_tree.specs.declared.words.Place.{Place}
 use Rattle.mspec_lexer.specs.Lexemes.{Lexeme}
@@ -14,7 +13,7 @@ use Rattle.mspec_quotes.specs.Machine.{Stopped}
 use Rattle.mspec_parser.specs.declared.words.Mark.{Mark}
 use Rattle.mspec_parser.specs.declared.words.Mark.TheVariants as mark
 use Rattle.mspec_parser.specs.Words.{symbol_of, mark_of}
-use Rattle.mspec_parser.specs.Readers.{Read, ◌>>=◌, picked, next_at, one, begins_with, many, listed, number_of, is_some_mark, is_mark, is_word, passing, place_only, pick_name, pick_number, mark_at, word_at, name_at, number_at}
+use Rattle.mspec_parser.specs.Readers.{Read, ◌>>=◌, picked, next_at, one, begins_with, many, listed, number_of, is_some_mark, is_mark, is_word, passing, pick_name, pick_number, mark_at, word_at, name_at, number_at}
 
 -- what a reader gives is such a part
 pub record Sound {A : Type 0} (read : List Lexeme → Read A) (P : List Lexeme → A → List Lexeme → Type 0) : Type 0 where

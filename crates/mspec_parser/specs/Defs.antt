@@ -1,5 +1,5 @@
 -- Definitions, and the whole description, as they are read.
-use Rattle.std.specs.Prelude.{ℕ, Bool, true, false, cond, List, [], ◌∷◌, length, codes, ◌≡◌, Option, Some, None, Result, Ok, Err}
+use Rattle.std.specs.Prelude.{ℕ, List, length, ◌≡◌, Option, Some, None, Result, Ok, Err}
 use Rattle.mspec_tree.specs.declared.words.Place.{Place}
 use Rattle.mspec_tree.specs.declared.defs.Constant.{Constant}
 use Rattle.mspec_tree.specs.declared.defs.Def.{Def}
@@ -11,8 +11,8 @@ use Rattle.mspec_lexer.specs.declared.tokens.Token.{Token}
 use Rattle.mspec_quotes.specs.declared.quotes.QuoteFault.{QuoteFault}
 use Rattle.mspec_quotes.specs.declared.quotes.QuoteFault.TheVariants as fault
 use Rattle.mspec_grammar.specs.declared.faults.ParseWhy.{ParseWhy}
-use Rattle.mspec_grammar.specs.declared.faults.ParseWhy.TheVariants.{Unexpected, EndOfText, LeftOut, TooDeep}
-use Rattle.mspec_grammar.specs.Meanings.{Meaning, Number, Sign, Taken, Name}
+use Rattle.mspec_grammar.specs.declared.faults.ParseWhy.TheVariants.{Unexpected}
+use Rattle.mspec_grammar.specs.Meanings.{Meaning, Name}
 use Rattle.mspec_quotes.specs.Machine.{Stopped}
 use Rattle.mspec_parser.specs.declared.words.Mark.TheVariants as mark
 use Rattle.mspec_parser.specs.declared.words.DefWord.{DefWord}

@@ -1,7 +1,8 @@
 -- Fields and switches as they are read.
-use Rattle.std.specs.Prelude.{ℕ, Bool, true, false, cond, List, [], ◌∷◌, length, codes, Option, Some, None, Result, Ok, Err}
+use Rattle.std.specs.Prelude.{ℕ, cond, List, [], length, codes, Option, Some, None, Result, Ok, Err}
 use Rattle.std.specs.Str.{bytes_eq}
 use Rattle.mspec_tree.specs.declared.words.Place.{Place}
+use Rattle.mspec_tree.specs.declared.words.ByteOrder.{ByteOrder}
 use Rattle.mspec_tree.specs.declared.words.Simple.{Simple}
 use Rattle.mspec_tree.specs.declared.exprs.Expr.{Expr}
 use Rattle.mspec_tree.specs.declared.exprs.Ref.{Ref}
@@ -12,10 +13,10 @@ use Rattle.mspec_tree.specs.declared.fields.Case.{Case, roll-Case}
 use Rattle.mspec_tree.specs.Form.{is_one_of}
 use Rattle.mspec_lexer.specs.Lexemes.{Lexeme}
 use Rattle.mspec_grammar.specs.declared.faults.ParseWhy.{ParseWhy}
-use Rattle.mspec_grammar.specs.declared.faults.ParseWhy.TheVariants.{Unexpected, EndOfText, LeftOut, TooDeep}
-use Rattle.mspec_grammar.specs.Meanings.{Meaning, Number, Sign, Taken, Name}
+use Rattle.mspec_grammar.specs.declared.faults.ParseWhy.TheVariants.{Unexpected, LeftOut}
+use Rattle.mspec_grammar.specs.Meanings.{Meaning, Name}
 use Rattle.mspec_grammar.specs.Faults.{left_out_fields}
-use Rattle.mspec_quotes.specs.Machine.{Stopped, read_quoted}
+use Rattle.mspec_quotes.specs.Machine.{read_quoted}
 use Rattle.mspec_parser.specs.declared.words.Mark.TheVariants as mark
 use Rattle.mspec_parser.specs.declared.words.FieldWord.{FieldWord}
 use Rattle.mspec_parser.specs.declared.words.FieldWord.TheVariants as field
@@ -23,7 +24,7 @@ use Rattle.mspec_parser.specs.declared.words.ArrayWord.{ArrayWord}
 use Rattle.mspec_parser.specs.declared.words.ArrayWord.TheVariants as array
 use Rattle.mspec_parser.specs.declared.fields.NamedBody.{NamedBody}
 use Rattle.mspec_parser.specs.Words.{field_word_of, array_word_of}
-use Rattle.mspec_parser.specs.Readers.{Read, ◌>>=◌, one, begins_with, many, listed, is_mark, is_word, mark_at, word_at, name_at}
+use Rattle.mspec_parser.specs.Readers.{Read, ◌>>=◌, one, many, listed, is_mark, is_word, mark_at, word_at, name_at}
 use Rattle.mspec_parser.specs.Small.{quoted_lit_at, const_lit_at, keys_at, simple_at, kind_at, ref_at, order_at}
 
 -- ---- fields
@@ -143,6 +144,9 @@ body_from limit bracket field.Optional xs = optional_body limit xs
 body_from limit bracket field.Checksum xs = checksum_body limit xs
 body_from limit bracket field.Padding xs = padding_body limit xs
 body_from limit bracket field.Array xs = array_body limit xs
+
+abbrev pub field_of : Place → NamedBody → Option ByteOrder → Field
+field_of bracket inner order = roll-Field (record { place = bracket; named = inner.named; name = inner.name; order = order; body = inner.body })
 
 unfoldable pub field_from : ℕ → Place → FieldWord → List Lexeme → Read Field
 field_from limit bracket word xs = do

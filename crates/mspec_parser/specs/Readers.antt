@@ -1,14 +1,14 @@
 -- How parts of a description are read, from left to right. The grammar says what they are.
-use Rattle.std.specs.Prelude.{ℕ, ◌==◌, zero, suc, Bool, true, false, cond, List, [], ◌∷◌, length, drop, codes, Option, Some, None, Result, Ok, Err, ◌≡◌}
+use Rattle.std.specs.Prelude.{ℕ, ◌==◌, zero, suc, Bool, false, cond, List, [], ◌∷◌, length, drop, Option, Some, None, Result, Ok, Err, ◌≡◌}
 use Rattle.std.specs.Str.{bytes_eq}
 use Rattle.mspec_tree.specs.declared.words.Place.{Place}
 use Rattle.mspec_lexer.specs.declared.tokens.Token.{Token}
 use Rattle.mspec_lexer.specs.Lexemes.{Lexeme, lexemes}
 use Rattle.mspec_grammar.specs.declared.faults.ParseWhy.{ParseWhy}
-use Rattle.mspec_grammar.specs.declared.faults.ParseWhy.TheVariants.{Unexpected, EndOfText, LeftOut, TooDeep}
+use Rattle.mspec_grammar.specs.declared.faults.ParseWhy.TheVariants.{Unexpected, EndOfText}
 use Rattle.mspec_grammar.specs.declared.senses.Sense.{Sense}
 use Rattle.mspec_grammar.specs.Senses.{sensed}
-use Rattle.mspec_grammar.specs.Meanings.{Meaning, meaning, Number, Sign, Taken, Name}
+use Rattle.mspec_grammar.specs.Meanings.{Meaning, meaning, Number, Sign, Name}
 use Rattle.mspec_quotes.specs.declared.quotes.QuoteFault.{QuoteFault}
 use Rattle.mspec_quotes.specs.declared.quotes.QuoteFault.TheVariants as fault
 use Rattle.mspec_quotes.specs.Machine.{Stopped}

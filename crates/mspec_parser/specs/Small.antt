@@ -1,6 +1,5 @@
 -- Literals, keys, types, parameters, byte orders and constants as they are read.
-use Rattle.std.specs.Prelude.{ℕ, Bool, true, false, cond, List, [], ◌∷◌, length, codes, Option, Some, None, Result, Ok, Err}
-use Rattle.std.specs.Str.{bytes_eq}
+use Rattle.std.specs.Prelude.{ℕ, Bool, true, false, cond, List, [], codes, Option, Some, None, Result, Ok, Err}
 use Rattle.mspec_tree.specs.declared.words.Place.{Place}
 use Rattle.mspec_tree.specs.declared.words.ByteOrder.{ByteOrder}
 use Rattle.mspec_tree.specs.declared.words.Lit.{Lit}
@@ -18,17 +17,17 @@ use Rattle.mspec_tree.specs.Form.{left_out_types, is_one_of}
 use Rattle.mspec_lexer.specs.Lexemes.{Lexeme}
 use Rattle.mspec_lexer.specs.declared.tokens.Symbol.TheVariants as sign
 use Rattle.mspec_grammar.specs.declared.faults.ParseWhy.{ParseWhy}
-use Rattle.mspec_grammar.specs.declared.faults.ParseWhy.TheVariants.{Unexpected, EndOfText, LeftOut, TooDeep}
+use Rattle.mspec_grammar.specs.declared.faults.ParseWhy.TheVariants.{Unexpected, LeftOut}
 use Rattle.mspec_grammar.specs.declared.words.Word.{Word}
 use Rattle.mspec_grammar.specs.declared.words.Word.TheVariants as word
 use Rattle.mspec_grammar.specs.Meanings.{Meaning, Number, Sign, Taken, Name}
 use Rattle.mspec_grammar.specs.Parts.{width}
-use Rattle.mspec_quotes.specs.Machine.{Stopped, read_quoted}
+use Rattle.mspec_quotes.specs.Machine.{read_quoted}
 use Rattle.mspec_parser.specs.declared.words.Mark.TheVariants as mark
 use Rattle.mspec_parser.specs.declared.words.LitStart.{LitStart}
 use Rattle.mspec_parser.specs.declared.words.LitStart.TheVariants as start
 use Rattle.mspec_parser.specs.Words.{order_word_of}
-use Rattle.mspec_parser.specs.Readers.{Read, ◌>>=◌, one, begins_with, many, listed, is_mark, is_word, mark_at, word_at, name_at, number_at}
+use Rattle.mspec_parser.specs.Readers.{Read, ◌>>=◌, one, begins_with, listed, is_mark, is_word, mark_at, word_at, name_at, number_at}
 
 -- ---- literals and keys
 

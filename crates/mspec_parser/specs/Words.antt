@@ -1,5 +1,5 @@
 -- The words and symbols outside expressions.
-use Rattle.std.specs.Prelude.{ℕ, Bool, true, false, List, codes, Option, Some, None, if◌then◌else◌}
+use Rattle.std.specs.Prelude.{ℕ, List, codes, Option, Some, None, if◌then◌else◌}
 use Rattle.std.specs.Str.{bytes_eq}
 use Rattle.mspec_lexer.specs.declared.tokens.Symbol.{Symbol}
 use Rattle.mspec_lexer.specs.declared.tokens.Symbol.TheVariants as sign

@@ -1,5 +1,5 @@
 -- The printed form of an expression by its outermost shape.
-use Rattle.std.proofs.Common.{◌≡◌, ℕ, List, [], ◌∷◌, ◌++◌, true, false, refl, sym, ap, ◌∙◌, append_assoc, append-nil}
+use Rattle.std.proofs.Common.{◌≡◌, ℕ, List, ◌++◌, false, sym, ap, ◌∙◌, append_assoc, append-nil}
 use Rattle.std.specs.Prelude.{codes}
 use Rattle.mspec_tree.specs.declared.words.Op.{Op}
 use Rattle.mspec_tree.specs.declared.exprs.Expr.{Expr, fold-Expr, fold_out-Expr}
@@ -7,8 +7,8 @@ use Rattle.mspec_tree.specs.declared.exprs.Shape.{Shape, Shape-F, fold-roll-Shap
 use Rattle.mspec_tree.specs.declared.exprs.Shape.TheOpen as open_shape
 use Rattle.mspec_tree.specs.declared.exprs.Shape.TheVariants as shape
 use Rattle.mspec_lexer.specs.Spellings.{spelling}
-use Rattle.mspec_lexer.specs.Tokens.{Piece, text_of}
-use Rattle.mspec_printer.specs.Printed.{expr, form, Form, in_parentheses, layer, operand, operator}
+use Rattle.mspec_lexer.specs.Tokens.{text_of}
+use Rattle.mspec_printer.specs.Printed.{expr, form, Form, layer, operand, operator}
 use Rattle.mspec_printer.proofs.WriteLaws.{text_of_both}
 
 by_shape : (e : Expr) (s : Shape) (f : Shape-F Shape Expr) → e.shape ≡ s → roll-Shape f ≡ s → form e ≡ layer (map-Shape Shape Expr Form Form (fold-Shape Form Form layer (λ l. l.shape)) (fold-Expr Form Form layer (λ l. l.shape)) f)

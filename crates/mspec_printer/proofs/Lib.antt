@@ -1,3 +1,14 @@
 pub mod ExprLaws
 pub mod TextLaws
 pub mod WriteLaws
+pub mod Spelling
+pub mod SmallReads
+pub mod ExprReads
+pub mod FieldReads
+pub mod DefReads
+pub mod Joints
+pub mod Layers
+pub mod Joined
+pub mod ExprJoined
+pub mod TreeJoined
+pub mod Back

@@ -1,7 +1,7 @@
 -- The texts of printed parts.
 use Rattle.std.proofs.Math.Seq.{take-length}
 use Rattle.std.specs.Prelude.{◌==◌}
-use Rattle.std.proofs.Common.{◌≡◌, ◌≤◌, ◌-◌, ℕ, false, length, get_or, take, drop, arith, List, [], ◌∷◌, ◌++◌, map, refl, sym, ap, ◌∙◌, append_assoc, append-nil}
+use Rattle.std.proofs.Common.{◌≡◌, ◌≤◌, ◌-◌, ℕ, false, length, get_or, take, drop, arith, List, [], ◌∷◌, ◌++◌, map, sym, ap, ◌∙◌, append_assoc, append-nil}
 use Rattle.std.specs.Prelude.{codes, None, OnOk, Option, Result, Ok, Err}
 use Rattle.std.specs.List.{flat_map}
 use Rattle.mspec_tree.specs.declared.words.Key.{Key}
@@ -21,7 +21,7 @@ use Rattle.mspec_tree.specs.declared.defs.DefBody.TheVariants as def
 use Rattle.mspec_tree.specs.declared.defs.Param.{Param}
 use Rattle.mspec_lexer.specs.declared.tokens.Symbol.TheVariants.{Comma, RightBracket}
 use Rattle.mspec_lexer.specs.Tokens.{Piece, text_of}
-use Rattle.mspec_printer.specs.Printed.{Writes, attributes, blank, block, body_words, case, constant, definition, each_behind, expr, field, field_head, in_brackets, in_parentheses, inner, key_in_quotes, keys, kind_words, line, line_end, listed, lit, mark, member, member_by, cases_of, named, names, order, param, quoted, ref, simple, spaced, unless_empty, word}
+use Rattle.mspec_printer.specs.Printed.{Writes, attributes, blank, block, body_words, case, constant, definition, each_behind, expr, field, field_head, in_brackets, in_parentheses, inner, key_in_quotes, keys, kind_words, line, line_end, listed, lit, mark, member, member_by, cases_of, named, order, param, quoted, ref, simple, spaced, unless_empty, word}
 use Rattle.mspec_printer.proofs.WriteLaws.{text_of_all, text_of_behind, text_of_both}
 
 pub quoted_text : (p : List Piece) → text_of (quoted p) ≡ 39 ∷ (text_of p ++ 39 ∷ [])

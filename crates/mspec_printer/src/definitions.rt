@@ -2,9 +2,11 @@
 
 #![tactic(auto, using(crate::proofs::WriteLaws::texts))]
 
-ghost use Rattle.std.specs.Prelude.{◌≡◌, ◌∷◌, ◌++◌, [], IfOk, OnOk};
+ghost use Rattle.std.specs.Prelude.{◌≡◌, ◌≤◌, ◌∷◌, ◌++◌, [], length, IfOk, OnOk};
 ghost use Rattle.std.specs.List.{flat_map};
-ghost use Rattle.mspec_lexer.specs.Tokens.{text_of};
+ghost use Rattle.mspec_lexer.specs.Tokens.{text_limit, text_of};
+ghost use Rattle.mspec_tree.specs.Form.{IsWritten};
+ghost use Rattle.mspec_printer.specs.Alike.{ParsesAlike};
 ghost use Rattle.mspec_printer.specs.Printed.{Writes, constant, definition, inner, kind_words, member, named, printed, spaced};
 
 use crate::fields::append_member;
@@ -100,10 +102,12 @@ fn append_definitions(text: &mut Vec<u8>, defs: &[Def]) -> Result<(), AllocError
 
 /// The printed form of a description. It takes time linear in the text, and may have more bytes than a text that is read may.
 ///
-/// A description without definitions has no byte. Numbers are decimal, each key stands in quotes, a const's literal is bare,
+/// Where a text can give the description, and what is printed has at most 1,048,576 bytes, it parses to the same description
+/// but for places. A description without definitions has no byte. Numbers are decimal, each key stands in quotes, a const's literal is bare,
 /// and byte orders come last. A switch in a case, which no text of the language has, is printed without its cases.
 pub fn print_description(alloc: Global, d: &Description) -> Result<ByteList, AllocError>
-    ensures { IfOk result (λ text. text ≡ text_of (printed d.now)) }
+    ensures text { IfOk result (λ text. text ≡ text_of (printed d.now)) }
+    ensures parses { IsWritten d.now → IfOk result (λ text. length text ≤ text_limit → ParsesAlike d.now text) }
 {
     let mut text = Vec::new(alloc);
     append_definitions(&mut text, d.defs.as_slice())?;

@@ -8,9 +8,11 @@
 mod definitions;
 mod exprs;
 mod fields;
+mod laws;
 mod lists;
 #[cfg(test)]
 mod tests;
 mod words;
 
 pub use definitions::print_description;
+pub use laws::parses_back;

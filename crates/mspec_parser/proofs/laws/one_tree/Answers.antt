@@ -1,4 +1,3 @@
-use Rattle.std.proofs.Common.{◌≡◌}
 use Rattle.mspec_parser.proofs.CompleteTrees.{one-tree}
 use Rattle.mspec_parser.proofs.laws.one_tree.Goals as goal
 

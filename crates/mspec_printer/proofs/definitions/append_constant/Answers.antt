@@ -1,4 +1,4 @@
-use Rattle.std.proofs.Common.{◌≡◌, arith, sym, ap, ◌∙◌}
+use Rattle.std.proofs.Common.{arith}
 use Rattle.std.proofs.lemmas.Grind.{common_steps}
 use Rattle.mspec_printer.proofs.TextLaws.{constant_text}
 use Rattle.mspec_printer.proofs.definitions.append_constant.Goals as goal

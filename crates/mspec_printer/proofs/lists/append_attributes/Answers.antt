@@ -1,4 +1,4 @@
-use Rattle.std.proofs.Common.{◌≡◌, arith, sym, ap, ◌∙◌}
+use Rattle.std.proofs.Common.{arith, sym, ◌∙◌}
 use Rattle.std.proofs.lemmas.Grind.{common_steps}
 use Rattle.mspec_printer.proofs.TextLaws.{attributes_by}
 use Rattle.mspec_printer.proofs.lists.append_attributes.Goals as goal

@@ -1,0 +1,4 @@
+pub mod SpellingLemmas
+pub mod PlacingLemmas
+pub mod WindowLemmas
+pub mod OutputLemmas

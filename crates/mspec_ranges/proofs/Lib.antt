@@ -1,0 +1,5 @@
+mod FaultLaws
+mod JudgingLaws
+mod PathLaws
+mod SpanLaws
+mod VerdictLaws
