@@ -28,16 +28,21 @@ use Rattle.conn_core.specs.declared.answers.FrameAnswer.{FrameAnswer}
 use Rattle.conn_core.specs.declared.answers.FrameAnswer.TheVariants as frame_answers
 use Rattle.conn_core.specs.declared.answers.FrameRefusal.{FrameRefusal}
 use Rattle.conn_core.specs.declared.answers.FrameRefusal.TheVariants as frame_refusals
-use Rattle.conn_core.specs.declared.answers.LeaseAnswer.{LeaseAnswer}
-use Rattle.conn_core.specs.declared.answers.LeaseAnswer.TheVariants as lease_answers
+use Rattle.conn_core.specs.declared.answers.LeaseRefusal.{LeaseRefusal}
+use Rattle.conn_core.specs.declared.answers.LeaseRefusal.TheVariants as lease_refusals
 use Rattle.conn_core.specs.declared.answers.SendRefusal.{SendRefusal}
 use Rattle.conn_core.specs.declared.answers.SendRefusal.TheVariants as send_refusals
 use Rattle.conn_core.specs.declared.answers.Sending.{Sending}
 use Rattle.conn_core.specs.declared.answers.SubmitRefusal.{SubmitRefusal}
 use Rattle.conn_core.specs.declared.answers.SubmitRefusal.TheVariants as submit_refusals
-use Rattle.conn_core.specs.declared.answers.TakeRefusal.{TakeRefusal}
-use Rattle.conn_core.specs.declared.answers.TakeRefusal.TheVariants as take_refusals
-use Rattle.answer_texts.specs.Answers.{asked_text, cancelled_text, closed_text, collected_text, received_text, sent_text, submitted_text}
+use Rattle.conn_core.specs.declared.answers.Ticked.{Ticked}
+use Rattle.lease_core.specs.declared.answers.LeaseAnswer.{LeaseAnswer}
+use Rattle.lease_core.specs.declared.answers.LeaseAnswer.TheVariants as lease_answers
+use Rattle.lease_core.specs.declared.answers.LeaseState.{LeaseState}
+use Rattle.lease_core.specs.declared.answers.LeaseState.TheVariants as lease_states
+use Rattle.txn_core.specs.declared.phases.TakeRefusal.{TakeRefusal}
+use Rattle.txn_core.specs.declared.phases.TakeRefusal.TheVariants as take_refusals
+use Rattle.answer_texts.specs.Answers.{asked_text, cancelled_text, closed_text, collected_text, polled_text, received_text, released_text, sent_text, stopped_text, submitted_text, ticked_text}
 use Rattle.answer_texts.specs.Texts.{ended_text, eval_fault_text, frame_why_text, items_text, kind_text, read_why_text, reason_text, values_text, write_why_text}
 use Rattle.answer_texts.proofs.WordLemmas.{IsWord, decimal_word, is_word, written}
 
@@ -141,6 +146,17 @@ module _ (P : List ℕ → Type 0) (word : (bytes : List ℕ) → IsWord bytes �
   asked (Err ask_refusals.QueueFull) = two_words (codes "queue") (codes "full") refl refl
   asked (Err ask_refusals.NoMemory) = two_words (codes "no") (codes "memory") refl refl
 
+  pub polled : (answer : Result LeaseState LeaseRefusal) → P (polled_text answer)
+  polled (Ok lease_states.Held) = plain (codes "held") refl
+  polled (Ok (lease_states.Waiting place)) = named (codes "waiting") (decimal place) refl (number place)
+  polled (Err (lease_refusals.Closed r)) = closed r
+  polled (Err lease_refusals.NoLease) = two_words (codes "no") (codes "lease") refl refl
+
+  pub released : (answer : Result (Unit {0}) LeaseRefusal) → P (released_text answer)
+  released (Ok _) = plain (codes "released") refl
+  released (Err (lease_refusals.Closed r)) = closed r
+  released (Err lease_refusals.NoLease) = two_words (codes "no") (codes "lease") refl refl
+
   too_large : (size limit : ℕ) → P (codes "too large " ++ decimal size ++ codes " " ++ decimal limit)
   too_large size limit =
       let name = codes "too large" in
@@ -178,3 +194,14 @@ module _ (P : List ℕ → Type 0) (word : (bytes : List ℕ) → IsWord bytes �
   collected (Ok outcome) each = ended outcome.kind outcome.values each
   collected (Err take_refusals.Pending) each = plain (codes "pending") refl
   collected (Err take_refusals.NoRequest) each = two_words (codes "no") (codes "request") refl refl
+
+  pub ticked : (count : Ticked) → P (ticked_text count)
+  ticked count =
+      let name = codes "ticked" in
+      let rows = named name (decimal count.rows) refl (number count.rows) in
+      let leases = apart (name ++ 32 ∷ [] ++ decimal count.rows) (decimal count.leases) rows (number count.leases) in
+      apart (name ++ 32 ∷ [] ++ decimal count.rows ++ 32 ∷ [] ++ decimal count.leases) (decimal count.waiters) leases (number count.waiters)
+
+  pub stopped : (answer : Result (Unit {0}) Reason) → P (stopped_text answer)
+  stopped (Ok _) = plain (codes "stopping") refl
+  stopped (Err r) = closed r

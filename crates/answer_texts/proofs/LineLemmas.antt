@@ -9,7 +9,7 @@ use Rattle.wire_frames.specs.declared.ends.Outcome.{Outcome}
 use Rattle.wire_frames.specs.declared.kinds.PlcValue.{PlcValue}
 use Rattle.conn_core.specs.declared.answers.SendRefusal.{SendRefusal}
 use Rattle.conn_core.specs.declared.answers.Sending.{Sending}
-use Rattle.conn_core.specs.declared.answers.TakeRefusal.{TakeRefusal}
+use Rattle.txn_core.specs.declared.phases.TakeRefusal.{TakeRefusal}
 use Rattle.answer_texts.specs.Lines.{IsFeedless, IsSpaced}
 use Rattle.answer_texts.specs.Texts.{values_text}
 use Rattle.answer_texts.proofs.WordLemmas.{AreInner, IsInner, IsWord, all-append, all-weaker, lower_inner, lower_word, values_inner, values_word}

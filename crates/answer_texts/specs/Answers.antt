@@ -13,15 +13,20 @@ use Rattle.conn_core.specs.declared.answers.FrameAnswer.{FrameAnswer}
 use Rattle.conn_core.specs.declared.answers.FrameAnswer.TheVariants as frame_answers
 use Rattle.conn_core.specs.declared.answers.FrameRefusal.{FrameRefusal}
 use Rattle.conn_core.specs.declared.answers.FrameRefusal.TheVariants as frame_refusals
-use Rattle.conn_core.specs.declared.answers.LeaseAnswer.{LeaseAnswer}
-use Rattle.conn_core.specs.declared.answers.LeaseAnswer.TheVariants as lease_answers
+use Rattle.conn_core.specs.declared.answers.LeaseRefusal.{LeaseRefusal}
+use Rattle.conn_core.specs.declared.answers.LeaseRefusal.TheVariants as lease_refusals
 use Rattle.conn_core.specs.declared.answers.SendRefusal.{SendRefusal}
 use Rattle.conn_core.specs.declared.answers.SendRefusal.TheVariants as send_refusals
 use Rattle.conn_core.specs.declared.answers.Sending.{Sending}
 use Rattle.conn_core.specs.declared.answers.SubmitRefusal.{SubmitRefusal}
 use Rattle.conn_core.specs.declared.answers.SubmitRefusal.TheVariants as submit_refusals
-use Rattle.conn_core.specs.declared.answers.TakeRefusal.{TakeRefusal}
-use Rattle.conn_core.specs.declared.answers.TakeRefusal.TheVariants as take_refusals
+use Rattle.conn_core.specs.declared.answers.Ticked.{Ticked}
+use Rattle.lease_core.specs.declared.answers.LeaseAnswer.{LeaseAnswer}
+use Rattle.lease_core.specs.declared.answers.LeaseAnswer.TheVariants as lease_answers
+use Rattle.lease_core.specs.declared.answers.LeaseState.{LeaseState}
+use Rattle.lease_core.specs.declared.answers.LeaseState.TheVariants as lease_states
+use Rattle.txn_core.specs.declared.phases.TakeRefusal.{TakeRefusal}
+use Rattle.txn_core.specs.declared.phases.TakeRefusal.TheVariants as take_refusals
 use Rattle.answer_texts.specs.Texts.{frame_why_text, kind_text, outcome_text, reason_text, write_why_text}
 
 abbrev pub closed_text : Reason → List ℕ
@@ -34,6 +39,19 @@ asked_text (Ok (lease_answers.Waiting lease place)) = codes "waiting " ++ decima
 asked_text (Err (ask_refusals.Closed reason)) = closed_text reason
 asked_text (Err ask_refusals.QueueFull) = codes "queue full"
 asked_text (Err ask_refusals.NoMemory) = codes "no memory"
+
+-- what a lease is was asked
+abbrev pub polled_text : Result LeaseState LeaseRefusal → List ℕ
+polled_text (Ok lease_states.Held) = codes "held"
+polled_text (Ok (lease_states.Waiting place)) = codes "waiting " ++ decimal place
+polled_text (Err (lease_refusals.Closed reason)) = closed_text reason
+polled_text (Err lease_refusals.NoLease) = codes "no lease"
+
+-- a lease was given back
+abbrev pub released_text : Result (Unit {0}) LeaseRefusal → List ℕ
+released_text (Ok _) = codes "released"
+released_text (Err (lease_refusals.Closed reason)) = closed_text reason
+released_text (Err lease_refusals.NoLease) = codes "no lease"
 
 -- a request was handed in
 abbrev pub submitted_text : Result Accepted SubmitRefusal → List ℕ
@@ -72,3 +90,12 @@ abbrev pub collected_text : Result Outcome TakeRefusal → List ℕ
 collected_text (Ok outcome) = outcome_text outcome
 collected_text (Err take_refusals.Pending) = codes "pending"
 collected_text (Err take_refusals.NoRequest) = codes "no request"
+
+-- a moment was told: how many requests, leases and waiters it ended
+abbrev pub ticked_text : Ticked → List ℕ
+ticked_text ticked = codes "ticked " ++ decimal ticked.rows ++ codes " " ++ decimal ticked.leases ++ codes " " ++ decimal ticked.waiters
+
+-- the connection was asked to close
+abbrev pub stopped_text : Result (Unit {0}) Reason → List ℕ
+stopped_text (Ok _) = codes "stopping"
+stopped_text (Err reason) = closed_text reason

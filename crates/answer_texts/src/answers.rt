@@ -1,15 +1,15 @@
 ghost use Rattle.std.specs.Prelude.{Ok, Err};
 ghost use Rattle.node_tree.specs.Appends.{Appends};
-ghost use Rattle.answer_texts.specs.Answers.{asked_text, submitted_text, sent_text, received_text, cancelled_text, collected_text, closed_text};
+ghost use Rattle.answer_texts.specs.Answers.{asked_text, polled_text, released_text, submitted_text, sent_text, received_text, cancelled_text, collected_text, ticked_text, stopped_text, closed_text};
 
 use crate::outcomes::{append_kind, append_outcome};
 use crate::reasons::{
     append_numbered, append_pair, append_reason, append_spaced, append_undecodable, write_why_text,
 };
-use crate::values::append_hex;
+use crate::values::{append_hex, append_number};
 use conn_core::{
-    Accepted, AskRefusal, CancelRefusal, FrameAnswer, FrameRefusal, LeaseAnswer, SendRefusal,
-    Sending, SubmitRefusal, TakeRefusal,
+    Accepted, AskRefusal, CancelRefusal, FrameAnswer, FrameRefusal, LeaseAnswer, LeaseRefusal,
+    LeaseState, SendRefusal, Sending, SubmitRefusal, TakeRefusal, Ticked,
 };
 use std::alloc::AllocError;
 use wire_frames::{Outcome, Reason};
@@ -36,6 +36,35 @@ pub(crate) fn append_asked(
         Err(AskRefusal::Closed(reason)) => append_closed(text, *reason),
         Err(AskRefusal::QueueFull) => text.extend_from_slice(b"queue full"),
         Err(AskRefusal::NoMemory) => text.extend_from_slice(b"no memory"),
+    }
+}
+
+/// Adds what a caller that polled a lease is told. An `Err` leaves a text that begins as before.
+pub(crate) fn append_polled(
+    text: &mut Vec<u8>,
+    answer: &Result<LeaseState, LeaseRefusal>,
+) -> Result<(), AllocError>
+    ensures { Appends result text.old.items text.new.items (polled_text answer.now) }
+{
+    match answer {
+        Ok(LeaseState::Held) => text.extend_from_slice(b"held"),
+        Ok(LeaseState::Waiting { place }) => append_numbered(text, b"waiting ", u64::from(*place)),
+        Err(LeaseRefusal::Closed(reason)) => append_closed(text, *reason),
+        Err(LeaseRefusal::NoLease) => text.extend_from_slice(b"no lease"),
+    }
+}
+
+/// Adds what a caller that gave back a lease is told. An `Err` leaves a text that begins as before.
+pub(crate) fn append_released(
+    text: &mut Vec<u8>,
+    answer: &Result<(), LeaseRefusal>,
+) -> Result<(), AllocError>
+    ensures { Appends result text.old.items text.new.items (released_text answer.now) }
+{
+    match answer {
+        Ok(()) => text.extend_from_slice(b"released"),
+        Err(LeaseRefusal::Closed(reason)) => append_closed(text, *reason),
+        Err(LeaseRefusal::NoLease) => text.extend_from_slice(b"no lease"),
     }
 }
 
@@ -151,5 +180,32 @@ pub(crate) fn append_collected(
         Ok(outcome) => append_outcome(text, outcome),
         Err(TakeRefusal::Pending) => text.extend_from_slice(b"pending"),
         Err(TakeRefusal::NoRequest) => text.extend_from_slice(b"no request"),
+    }
+}
+
+/// Adds how many requests, leases and waiters a moment ended. An `Err` leaves a text that begins as before.
+pub(crate) fn append_ticked(text: &mut Vec<u8>, ticked: Ticked) -> Result<(), AllocError>
+    ensures { Appends result text.old.items text.new.items (ticked_text ticked) }
+{
+    append_pair(
+        text,
+        b"ticked ",
+        u64::from(ticked.rows),
+        u64::from(ticked.leases),
+    )?;
+    text.extend_from_slice(b" ")?;
+    append_number(text, u64::from(ticked.waiters))
+}
+
+/// Adds what a caller that asked for the end is told. An `Err` leaves a text that begins as before.
+pub(crate) fn append_stopped(
+    text: &mut Vec<u8>,
+    answer: &Result<(), Reason>,
+) -> Result<(), AllocError>
+    ensures { Appends result text.old.items text.new.items (stopped_text answer.now) }
+{
+    match answer {
+        Ok(()) => text.extend_from_slice(b"stopping"),
+        Err(reason) => append_closed(text, *reason),
     }
 }

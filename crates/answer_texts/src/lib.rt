@@ -12,7 +12,8 @@ mod tests;
 mod values;
 
 pub use additions::{
-    add_asked, add_cancelled, add_collected, add_outcome, add_received, add_sent, add_submitted,
+    add_asked, add_cancelled, add_collected, add_outcome, add_polled, add_received, add_released,
+    add_sent, add_stopped, add_submitted, add_ticked,
 };
 pub use laws::{answers_are_lines, words_stand_apart};
 pub use reasons::read_why_text;

@@ -1,10 +1,10 @@
 use crate::{
-    add_asked, add_cancelled, add_collected, add_outcome, add_received, add_sent, add_submitted,
-    read_why_text,
+    add_asked, add_cancelled, add_collected, add_outcome, add_polled, add_received, add_released,
+    add_sent, add_stopped, add_submitted, add_ticked, read_why_text,
 };
 use conn_core::{
-    Accepted, AskRefusal, CancelRefusal, FrameAnswer, FrameRefusal, LeaseAnswer, SendRefusal,
-    Sending, SubmitRefusal, TakeRefusal,
+    Accepted, AskRefusal, CancelRefusal, FrameAnswer, FrameRefusal, LeaseAnswer, LeaseRefusal,
+    LeaseState, SendRefusal, Sending, SubmitRefusal, TakeRefusal, Ticked,
 };
 use node_tree::{EvalFault, OwnedList, ReadWhy, WriteWhy};
 use std::alloc::{AllocError, Global};
@@ -70,6 +70,57 @@ fn answers_an_ask_for_a_lease(rt: HostRuntime) -> Result<(), Fail> {
         add_asked(&mut text, answer)?;
         assert_eq!(rt; text.as_slice(), *wanted);
     }
+    Ok(())
+}
+
+#[test]
+fn answers_what_a_lease_is(rt: HostRuntime) -> Result<(), Fail> {
+    let cases: [(Result<LeaseState, LeaseRefusal>, &[u8]); 4] = [
+        (Ok(LeaseState::Held), b"held"),
+        (Ok(LeaseState::Waiting { place: 63 }), b"waiting 63"),
+        (Err(LeaseRefusal::Closed(Reason::Asked)), b"closed asked"),
+        (Err(LeaseRefusal::NoLease), b"no lease"),
+    ];
+    for (answer, wanted) in &cases {
+        let mut text = Vec::new(rt.alloc());
+        add_polled(&mut text, answer)?;
+        assert_eq!(rt; text.as_slice(), *wanted);
+    }
+    Ok(())
+}
+
+#[test]
+fn answers_that_a_lease_is_given_back(rt: HostRuntime) -> Result<(), Fail> {
+    let cases: [(Result<(), LeaseRefusal>, &[u8]); 3] = [
+        (Ok(()), b"released"),
+        (Err(LeaseRefusal::Closed(Reason::Worn)), b"closed worn"),
+        (Err(LeaseRefusal::NoLease), b"no lease"),
+    ];
+    for (answer, wanted) in &cases {
+        let mut text = Vec::new(rt.alloc());
+        add_released(&mut text, answer)?;
+        assert_eq!(rt; text.as_slice(), *wanted);
+    }
+    Ok(())
+}
+
+#[test]
+fn answers_a_tick_and_the_end(rt: HostRuntime) -> Result<(), Fail> {
+    let mut text = Vec::new(rt.alloc());
+    let ticked = Ticked {
+        rows: 1024,
+        leases: 2,
+        waiters: 0,
+    };
+    add_ticked(&mut text, ticked)?;
+    text.extend_from_slice(b", ")?;
+    add_stopped(&mut text, &Ok(()))?;
+    text.extend_from_slice(b", ")?;
+    add_stopped(&mut text, &Err(Reason::Asked))?;
+    assert_eq!(rt;
+        text.as_slice(),
+        b"ticked 1024 2 0, stopping, closed asked".as_slice()
+    );
     Ok(())
 }
 

@@ -1,276 +1,207 @@
--- Why a call is refused, by the table that it finds.
-use Rattle.std.proofs.Common.{◌≡◌, ℕ, ◌<◌, ◌≤◌, Bool, true, false, List, [], ◌∷◌, Option, Some, None, Result, Ok, Err, length, inl, inr, refl, sym, ap, ◌∙◌, subst, arith, nat_lt, count_by}
-use Rattle.std.specs.Prelude.{◌↔◌, ◌&&◌, ◌==◌, All, IsErr, if◌then◌else◌}
+-- Why calls are refused, by what the table is.
+use Rattle.std.proofs.Common.{◌≡◌, ◌≢◌, ◌⊎◌, inl, inr, ℕ, ◌+◌, ◌<◌, ◌≤◌, Bool, true, false, List, [], ◌∷◌, length, refl, ap, subst, arith, Option, Some, None, Ok, Err}
+use Rattle.std.specs.Prelude.{Result, ◌&&◌, ◌==◌, if◌then◌else◌, is_some, count_by, nat_lt}
 use Rattle.std.specs.List.{find}
+use Rattle.std.specs.Option.{ok_or}
 use Rattle.std.proofs.lemmas.Bool.Decides.{nat_tests}
-use Rattle.wire_frames.specs.WireMeaning.{WireMeaning, Refused}
+use Rattle.std.proofs.lemmas.Bool.{eqb-true}
+use Rattle.lease_core.specs.LeaseSteps.{asked_answer, is_held_at_once}
+use Rattle.lease_core.specs.LeaseTables.{IsLeaseTable, LeaseTable, has_room, state_of, waiters_limit}
+use Rattle.lease_core.specs.declared.answers.LeaseAnswer.{LeaseAnswer}
+use Rattle.lease_core.specs.declared.answers.LeaseAnswer.TheVariants as lease_answers
+use Rattle.lease_core.specs.declared.answers.LeaseState.{LeaseState}
+use Rattle.txn_core.specs.RowSteps.{added_under, answer_of, sent_from, taken_from}
+use Rattle.txn_core.specs.RowTables.{Row, is_full, is_queued, is_sent, phase_of, rows_limit}
+use Rattle.txn_core.specs.declared.phases.AddRefusal.TheVariants as add_refusals
+use Rattle.txn_core.specs.declared.phases.Phase.{Phase}
+use Rattle.txn_core.specs.declared.phases.Phase.TheVariants.{Queued, Sent, Ended}
+use Rattle.txn_core.specs.declared.phases.TakeRefusal.{TakeRefusal}
+use Rattle.txn_core.specs.declared.phases.TakeRefusal.TheVariants as take_refusals
+use Rattle.wire_frames.specs.WireMeaning.{Refused, WireMeaning}
+use Rattle.wire_frames.specs.declared.ends.Outcome.{Outcome}
 use Rattle.wire_frames.specs.declared.ends.Reason.{Reason}
-use Rattle.conn_core.specs.Causes.{HasEndedRow, HasLiveRow, HasNoRow, CannotSend, IsTooLarge, IsUnwritable, MustWait}
-use Rattle.conn_core.specs.KeptStates.{IsState}
-use Rattle.conn_core.specs.RowLaw.{RowLaw}
-use Rattle.conn_core.specs.States.{Key, State, connection_of, table_in}
-use Rattle.conn_core.specs.Requests.{frame_at, frame_for, prepared, reference_to_try, with_prepared}
-use Rattle.conn_core.specs.Steps.{Request, accepted_of, answer_of, apply_frame, ask_lease, asked, asked_if, cancel, cancel_row, collect, collect_row, next_reference, received, submit, take_send, when_open, with_cancelled, with_collected, with_queued, with_queued_frame, with_reference}
-use Rattle.conn_core.specs.Rooms.{lists_of}
-use Rattle.conn_core.specs.TableLaw.{ClosesWith, IsBounded, TableLaw}
-use Rattle.conn_core.specs.Tables.{Connection, Table, at_moment, holds, is_ended, is_open, is_queued, is_row_of, is_sent, phase_ended, phase_queued, rows_limit, waiters_limit}
+use Rattle.conn_core.specs.Causes.{CannotSend, HasEndedRow, HasLiveRow, HasNoRow, IsTooLarge, IsUnwritable, MustWait}
+use Rattle.conn_core.specs.KeptSteps.{poll_answer}
+use Rattle.conn_core.specs.Steps.{Request, accepted_of, ask_lease, cancel, cancel_as, collect, collected_as, draft_of, reference_to_try, release, sending_as, started, started_as, submit, take_send, when_open, with_frame}
+use Rattle.conn_core.specs.Tables.{Handed, Table, at_moment, holds}
 use Rattle.conn_core.specs.declared.answers.AskRefusal.{AskRefusal}
 use Rattle.conn_core.specs.declared.answers.AskRefusal.TheVariants as asks
 use Rattle.conn_core.specs.declared.answers.CancelRefusal.{CancelRefusal}
 use Rattle.conn_core.specs.declared.answers.CancelRefusal.TheVariants as cancels
-use Rattle.conn_core.specs.declared.answers.FrameAnswer.{FrameAnswer}
-use Rattle.conn_core.specs.declared.answers.FrameRefusal.TheVariants as frames
-use Rattle.conn_core.specs.declared.answers.LeaseAnswer.{LeaseAnswer}
-use Rattle.conn_core.specs.declared.answers.LeaseAnswer.TheVariants as lease_answers
+use Rattle.conn_core.specs.declared.answers.LeaseRefusal.{LeaseRefusal}
+use Rattle.conn_core.specs.declared.answers.LeaseRefusal.TheVariants as lease_refusals
 use Rattle.conn_core.specs.declared.answers.SendRefusal.{SendRefusal}
 use Rattle.conn_core.specs.declared.answers.SendRefusal.TheVariants as sends
 use Rattle.conn_core.specs.declared.answers.SubmitRefusal.{SubmitRefusal}
 use Rattle.conn_core.specs.declared.answers.SubmitRefusal.TheVariants as submits
-use Rattle.conn_core.specs.declared.answers.TakeRefusal.{TakeRefusal}
-use Rattle.conn_core.specs.declared.answers.TakeRefusal.TheVariants as takes
-use Rattle.conn_core.specs.declared.kept.Kept.{Kept}
-use Rattle.conn_core.specs.declared.rows.Phase.{Phase}
-use Rattle.conn_core.specs.declared.rows.Phase.TheVariants.{Queued, Sent, Ended}
-use Rattle.conn_core.specs.declared.rows.Row.{Row}
-use Rattle.conn_core.specs.declared.settings.Settings.{Settings}
-use Rattle.conn_core.proofs.AllLemmas.{all_found}
-use Rattle.conn_core.proofs.FirstLemmas.{found_passes}
-use Rattle.conn_core.proofs.PartLemmas.{submit_is}
-use Rattle.conn_core.proofs.RefusalLemmas.{shut}
-use Rattle.conn_core.proofs.TableLemmas.{legal_law}
-
--- ---- what contracts see
-
--- what holds of the kept table holds of the one that contracts see
-pub seen : {W : Type 0} (meaning : W → WireMeaning) (key : Key W) (k : Kept) {old : State W} → IsState (connection_of meaning key) k → record { key = key; journal = k.journal.items } ≡ old → (P : Table → Type 0) → P (lists_of k.table) → P (table_in meaning old)
-seen meaning key k state is P h = subst (λ v. P (table_in meaning v)) is (subst P (sym state.table) h)
-
-pub seen_law : {W : Type 0} (meaning : W → WireMeaning) (key : Key W) (k : Kept) {old : State W} → IsState (connection_of meaning key) k → record { key = key; journal = k.journal.items } ≡ old → TableLaw (connection_of meaning old.key) old.journal
-seen_law meaning key k state is = subst (λ v. TableLaw (connection_of meaning v.key) v.journal) is (legal_law (connection_of meaning key) k.journal.items state.legal)
-
--- the kept table is closed where an entry closes, with its reason
-pub closed_cause : {W : Type 0} (meaning : W → WireMeaning) (key : Key W) (k : Kept) {old : State W} → IsState (connection_of meaning key) k → record { key = key; journal = k.journal.items } ≡ old → (reason : Reason) → (k.table.closed ≡ Some reason) ↔ ClosesWith old.journal reason
-closed_cause meaning key k state is reason =
-    subst (λ v. (k.table.closed ≡ Some reason) ↔ ClosesWith v.journal reason) is
-    (subst (λ t. (t.closed ≡ Some reason) ↔ ClosesWith k.journal.items reason) state.table ((legal_law (connection_of meaning key) k.journal.items state.legal).closed reason))
-
--- the kept rows are those of the journal's table
-pub kept_rows : (c : Connection) (k : Kept) → IsState c k → RowLaw c k.journal.items (lists_of k.table)
-kept_rows c k state = subst (RowLaw c k.journal.items) state.table (legal_law c k.journal.items state.legal).rows
-
--- the kept table is within its bounds
-pub kept_bounds : (c : Connection) (k : Kept) → IsState c k → IsBounded c.settings (lists_of k.table)
-kept_bounds c k state = subst (IsBounded c.settings) state.table (legal_law c k.journal.items state.legal).bounds
-
--- a table that was closed isn't open
-closed_shut : (t : Table) (closed : Option Reason) (reason : Reason) → t.closed ≡ closed → closed ≡ Some reason → is_open t ≡ false
-closed_shut t None reason is shuts = absurd (cc)
-closed_shut t (Some other) reason is shuts = ap (λ o. is_open (record t { closed = o })) is
-
-pub closed_ended : (c : Connection) (k : Kept) (reason : Reason) → IsState c k → k.table.closed ≡ Some reason → All (λ row. is_ended row ≡ true) k.table.rows.items
-closed_ended c k reason state shuts = (kept_rows c k state).ended (closed_shut (lists_of k.table) k.table.closed reason refl shuts)
 
 -- ---- AskLease
 
 abbrev pub AskCause : Table → AskRefusal → Type 0
 AskCause t (asks.Closed reason) = t.closed ≡ Some reason
-AskCause t asks.QueueFull = waiters_limit ≤ length t.waiting
+AskCause t asks.QueueFull = waiters_limit ≤ length t.leases.waiting
 AskCause t asks.NoMemory = Unit {0}
 
-ask_cause_if : (t : Table) (closed : Option Reason) (b : Bool) (p : Table × LeaseAnswer) (e : AskRefusal) → t.closed ≡ closed → nat_lt (length t.waiting) waiters_limit ≡ b → answer_of (when_open asks.Closed closed (if b then Ok p else Err asks.QueueFull)) ≡ Err e → AskCause t e
-ask_cause_if t None true p e closed room is = absurd (cc)
-ask_cause_if t None false p e closed room is =
-    let same : asks.QueueFull ≡ e = cc in
-    let full : waiters_limit ≤ length t.waiting = grind (arith, nat_tests) in subst (AskCause t) same full
-ask_cause_if t (Some reason) b p e closed room is = let same : asks.Closed reason ≡ e = cc in subst (AskCause t) same closed
+ask_cause_if : (t : Table) (closed : Option Reason) (b : Bool) (p : Table × LeaseAnswer) (r : AskRefusal) → t.closed ≡ closed → nat_lt (length t.leases.waiting) waiters_limit ≡ b → answer_of (when_open asks.Closed closed (if b then Ok p else Err asks.QueueFull)) ≡ Err r → AskCause t r
+ask_cause_if t None true p r closed room is = absurd (cc)
+ask_cause_if t None false p r closed room is =
+    let same : asks.QueueFull ≡ r = cc in
+    let full : waiters_limit ≤ length t.leases.waiting = grind (arith, nat_tests) in subst (AskCause t) same full
+ask_cause_if t (Some reason) b p r closed room is = let same : asks.Closed reason ≡ r = cc in subst (AskCause t) same closed
 
-pub ask_cause : (s : Settings) (t : Table) (actor now : ℕ) (e : AskRefusal) → answer_of (ask_lease s t actor now) ≡ Err e → AskCause t e
-ask_cause s t actor now e is = ask_cause_if t t.closed (nat_lt (length t.waiting) waiters_limit) (asked s (at_moment now t) actor) e refl refl is
+pub ask_cause : (t : Table) (actor now : ℕ) (r : AskRefusal) → answer_of (ask_lease t actor now) ≡ Err r → AskCause t r
+ask_cause t actor now r is = ask_cause_if t t.closed (nat_lt (length t.leases.waiting) waiters_limit) _ r refl refl is
 
-must_wait : (s : Settings) (t : Table) (few none : Bool) → IsBounded s t → nat_lt (length t.held) s.share ≡ few → (length t.waiting == 0) ≡ none → (few && none) ≡ false → MustWait s t
-must_wait s t true true bounds few none is = absurd (cc)
-must_wait s t true false bounds few none is = inr (λ empty. let zero : length t.waiting ≡ 0 = ap length empty in grind (arith, nat_tests))
-must_wait s t false none bounds few none_is is =
-    let most = bounds.held in
-    let least : s.share ≤ length t.held = grind (arith, nat_tests) in inl (omega arith)
+must_wait : (l : LeaseTable) (few none : Bool) → IsLeaseTable l → has_room l ≡ few → (length l.waiting == 0) ≡ none → (few && none) ≡ false → (length l.held ≡ l.share) ⊎ (l.waiting ≢ [])
+must_wait l true true table few none is = absurd (cc)
+must_wait l true false table few none is = inr (λ empty. let zero : length l.waiting ≡ 0 = ap length empty in grind (arith, nat_tests))
+must_wait l false none table few none_is is =
+    let most = table.held in
+    let least : l.share ≤ length l.held = grind (arith, nat_tests) in inl (omega arith)
 
-asked_waits : (s : Settings) (t : Table) (actor now : ℕ) (b : Bool) (lease place : ℕ) → IsBounded s t → (nat_lt (length t.held) s.share && (length t.waiting == 0)) ≡ b → (asked_if b s (at_moment now t) actor).1 ≡ lease_answers.Waiting lease place → MustWait s t × (place ≡ length t.waiting)
-asked_waits s t actor now true lease place bounds test is = absurd (cc)
-asked_waits s t actor now false lease place bounds test is = (must_wait s t (nat_lt (length t.held) s.share) (length t.waiting == 0) bounds refl refl test, cc)
+asked_waits : (l : LeaseTable) (b : Bool) (lease place : ℕ) → IsLeaseTable l → is_held_at_once l ≡ b → (if b then lease_answers.Granted (l.drawn + 1) else lease_answers.Waiting (l.drawn + 1) (length l.waiting)) ≡ lease_answers.Waiting lease place → ((length l.held ≡ l.share) ⊎ (l.waiting ≢ [])) × (place ≡ length l.waiting)
+asked_waits l true lease place table test is = absurd (cc)
+asked_waits l false lease place table test is = (must_wait l (has_room l) (length l.waiting == 0) table refl refl test, cc)
 
-waits_if : (s : Settings) (t : Table) (actor now : ℕ) (closed : Option Reason) (b : Bool) (lease place : ℕ) → IsBounded s t → answer_of (when_open asks.Closed closed (if b then Ok (asked s (at_moment now t) actor) else Err asks.QueueFull)) ≡ Ok (lease_answers.Waiting lease place) → MustWait s t × (place ≡ length t.waiting)
-waits_if s t actor now None true lease place bounds is = let waits : (asked s (at_moment now t) actor).1 ≡ lease_answers.Waiting lease place = cc in asked_waits s t actor now _ lease place bounds refl waits
-waits_if s t actor now None false lease place bounds is = absurd (cc)
-waits_if s t actor now (Some reason) b lease place bounds is = absurd (cc)
+waits_if : (t : Table) (next : Table) (closed : Option Reason) (b : Bool) (lease place : ℕ) → IsLeaseTable t.leases → answer_of (when_open asks.Closed closed (if b then Ok (next, asked_answer t.leases) else Err asks.QueueFull)) ≡ Ok (lease_answers.Waiting lease place) → MustWait t × (place ≡ length t.leases.waiting)
+waits_if t next None true lease place table is = let waits : asked_answer t.leases ≡ lease_answers.Waiting lease place = cc in asked_waits t.leases (is_held_at_once t.leases) lease place table refl waits
+waits_if t next None false lease place table is = absurd (cc)
+waits_if t next (Some reason) b lease place table is = absurd (cc)
 
 -- an actor waits where no lease is left, or others wait before
-pub waits_cause : (s : Settings) (t : Table) (actor now lease place : ℕ) → IsBounded s t → answer_of (ask_lease s t actor now) ≡ Ok (lease_answers.Waiting lease place) → MustWait s t × (place ≡ length t.waiting)
-waits_cause s t actor now lease place bounds is = waits_if s t actor now t.closed (nat_lt (length t.waiting) waiters_limit) lease place bounds is
+pub waits_cause : (t : Table) (actor now lease place : ℕ) → IsLeaseTable t.leases → answer_of (ask_lease t actor now) ≡ Ok (lease_answers.Waiting lease place) → MustWait t × (place ≡ length t.leases.waiting)
+waits_cause t actor now lease place table is = waits_if t _ t.closed (nat_lt (length t.leases.waiting) waiters_limit) lease place table is
+
+-- ---- poll_lease and Release
+
+abbrev pub LeaseCause : Option Reason → LeaseTable → (actor number : ℕ) → LeaseRefusal → Type 0
+LeaseCause closed l actor number (lease_refusals.Closed reason) = closed ≡ Some reason
+LeaseCause closed l actor number lease_refusals.NoLease = (closed ≡ None) × (state_of l actor number ≡ None)
+
+poll_cause_if : (l : LeaseTable) (actor number : ℕ) (closed : Option Reason) (o : Option LeaseState) (r : LeaseRefusal) → state_of l actor number ≡ o → when_open lease_refusals.Closed closed (ok_or o lease_refusals.NoLease) ≡ Err r → LeaseCause closed l actor number r
+poll_cause_if l actor number None None r found is = let same : lease_refusals.NoLease ≡ r = cc in subst (LeaseCause None l actor number) same (refl, found)
+poll_cause_if l actor number None (Some state) r found is = absurd (cc)
+poll_cause_if l actor number (Some reason) o r found is = let same : lease_refusals.Closed reason ≡ r = cc in subst (LeaseCause (Some reason) l actor number) same refl
+
+pub poll_cause : (l : LeaseTable) (actor number : ℕ) (closed : Option Reason) (r : LeaseRefusal) → poll_answer actor number closed l ≡ Err r → LeaseCause closed l actor number r
+poll_cause l actor number closed r is = poll_cause_if l actor number closed (state_of l actor number) r refl is
+
+poll_told_if : (closed : Option Reason) (o : Option LeaseState) (found : LeaseState) → when_open lease_refusals.Closed closed (ok_or o lease_refusals.NoLease) ≡ Ok found → o ≡ Some found
+poll_told_if None None found is = cc
+poll_told_if None (Some state) found is = cc
+poll_told_if (Some reason) o found is = cc
+
+pub poll_told : (l : LeaseTable) (actor number : ℕ) (closed : Option Reason) (found : LeaseState) → poll_answer actor number closed l ≡ Ok found → state_of l actor number ≡ Some found
+poll_told l actor number closed found is = poll_told_if closed (state_of l actor number) found is
+
+release_cause_if : (t next : Table) (actor number : ℕ) (closed : Option Reason) (o : Option LeaseState) (r : LeaseRefusal) → state_of t.leases actor number ≡ o → answer_of (when_open lease_refusals.Closed closed (if is_some o then Ok (next, tt {0}) else Err lease_refusals.NoLease)) ≡ Err r → LeaseCause closed t.leases actor number r
+release_cause_if t next actor number None None r found is = let same : lease_refusals.NoLease ≡ r = cc in subst (LeaseCause None t.leases actor number) same (refl, found)
+release_cause_if t next actor number None (Some state) r found is = absurd (cc)
+release_cause_if t next actor number (Some reason) o r found is = let same : lease_refusals.Closed reason ≡ r = cc in subst (LeaseCause (Some reason) t.leases actor number) same refl
+
+pub release_cause : (t : Table) (actor number now : ℕ) (r : LeaseRefusal) → answer_of (release t actor number now) ≡ Err r → LeaseCause t.closed t.leases actor number r
+release_cause t actor number now r is = release_cause_if t _ actor number t.closed (state_of t.leases actor number) r refl is
 
 -- ---- Submit
 
 abbrev pub SubmitCause : WireMeaning → Table → Request → SubmitRefusal → Type 0
 SubmitCause wire t q (submits.Closed reason) = t.closed ≡ Some reason
 SubmitCause wire t q submits.NoLease = holds q.actor q.lease t ≡ false
-SubmitCause wire t q submits.TableFull = rows_limit ≤ length t.rows
+SubmitCause wire t q submits.TableFull = length t.requests.rows ≡ rows_limit
 SubmitCause wire t q (submits.Unwritable entry why) = IsUnwritable wire t q.ask entry why
 SubmitCause wire t q (submits.TooLarge size limit) = IsTooLarge wire q.ask size limit
-SubmitCause wire t q submits.NoReference = t.free ≡ []
+SubmitCause wire t q submits.NoReference = t.requests.free ≡ []
 SubmitCause wire t q submits.NoMemory = Unit {0}
 
--- the tests that stand before the frame is written
-try_cause : (wire : WireMeaning) (t : Table) (q : Request) (closed : Option Reason) (held room : Bool) (e : SubmitRefusal) → t.closed ≡ closed → holds q.actor q.lease t ≡ held → nat_lt (length t.rows) rows_limit ≡ room
-    → when_open submits.Closed closed (if held then (if room then Ok (next_reference t.free) else Err submits.TableFull) else Err submits.NoLease) ≡ Err e → SubmitCause wire t q e
-try_cause wire t q None true true e closed holds few is = absurd (cc)
-try_cause wire t q None true false e closed holds few is =
-    let same : submits.TableFull ≡ e = cc in
-    let full : rows_limit ≤ length t.rows = grind (arith, nat_tests) in subst (SubmitCause wire t q) same full
-try_cause wire t q None false room e closed holds few is = let same : submits.NoLease ≡ e = cc in subst (SubmitCause wire t q) same holds
-try_cause wire t q (Some reason) held room e closed holds few is = let same : submits.Closed reason ≡ e = cc in subst (SubmitCause wire t q) same closed
+add_cause : (wire : WireMeaning) (t u : Table) (q : Request) (frame free : List ℕ) (full : Bool) (r : SubmitRefusal) → t.requests.free ≡ free → is_full t.requests ≡ full → accepted_of (answer_of (started_as u frame (if full then Err add_refusals.Full else added_under (draft_of q u.clock frame) t.requests free))) ≡ Err r → SubmitCause wire t q r
+add_cause wire t u q frame free true r is_free is_full_now is =
+    let same : submits.TableFull ≡ r = cc in
+    let full : length t.requests.rows ≡ rows_limit = eqb-true (length t.requests.rows) rows_limit is_full_now in
+    subst (SubmitCause wire t q) same full
+add_cause wire t u q frame [] false r none is_full_now is = let same : submits.NoReference ≡ r = cc in subst (SubmitCause wire t q) same none
+add_cause wire t u q frame (reference ∷ rest) false r none is_full_now is = absurd (cc)
 
--- a reference is tried only where these pass, and it is the next
-tried_is : (t : Table) (closed : Option Reason) (held room : Bool) (reference : ℕ) → when_open submits.Closed closed (if held then (if room then Ok (next_reference t.free) else Err submits.TableFull) else Err submits.NoLease) ≡ Ok reference → next_reference t.free ≡ reference
-tried_is t None true true reference is = cc
-tried_is t None true false reference is = absurd (cc)
-tried_is t None false room reference is = absurd (cc)
-tried_is t (Some reason) held room reference is = absurd (cc)
-
-large_cause : (wire : WireMeaning) (t : Table) (q : Request) (frame : List ℕ) (b : Bool) (e : SubmitRefusal) → nat_lt wire.limit (wire.size q.ask) ≡ b → (let o : Result (List ℕ) SubmitRefusal = if b then Err (submits.TooLarge (wire.size q.ask) wire.limit) else Ok frame in o) ≡ Err e → SubmitCause wire t q e
-large_cause wire t q frame true e test is =
-    let same : submits.TooLarge (wire.size q.ask) wire.limit ≡ e = cc in
+large_cause : (wire : WireMeaning) (t : Table) (q : Request) (frame : List ℕ) (b : Bool) (r : SubmitRefusal) → nat_lt wire.limit (wire.size q.ask) ≡ b → accepted_of (answer_of (if b then Err (submits.TooLarge (wire.size q.ask) wire.limit) else started q frame (at_moment q.moment t))) ≡ Err r → SubmitCause wire t q r
+large_cause wire t q frame true r test is =
+    let same : submits.TooLarge (wire.size q.ask) wire.limit ≡ r = cc in
     let above : wire.limit < wire.size q.ask = grind (arith, nat_tests) in
     subst (SubmitCause wire t q) same (record { size_is = refl; limit_is = refl; above = above })
-large_cause wire t q frame false e test is = absurd (cc)
+large_cause wire t q frame false r test is = add_cause wire t (at_moment q.moment t) q frame t.requests.free (is_full t.requests) r refl refl is
 
-written_cause : (wire : WireMeaning) (t : Table) (q : Request) (w : Result (List ℕ) Refused) (e : SubmitRefusal) → wire.frame_of q.ask (next_reference t.free) ≡ w → frame_for wire q.ask w ≡ Err e → SubmitCause wire t q e
-written_cause wire t q (Err refused) e written is =
-    let same : submits.Unwritable refused.entry refused.why ≡ e = cc in subst (SubmitCause wire t q) same written
-written_cause wire t q (Ok frame) e written is = large_cause wire t q frame (nat_lt wire.limit (wire.size q.ask)) e refl is
+written_cause : (wire : WireMeaning) (t : Table) (q : Request) (w : Result (List ℕ) Refused) (r : SubmitRefusal) → wire.frame_of q.ask (reference_to_try t) ≡ w → accepted_of (answer_of (with_frame wire t q w)) ≡ Err r → SubmitCause wire t q r
+written_cause wire t q (Err refused) r written is = let same : submits.Unwritable refused.entry refused.why ≡ r = cc in subst (SubmitCause wire t q) same written
+written_cause wire t q (Ok frame) r written is = large_cause wire t q frame (nat_lt wire.limit (wire.size q.ask)) r refl is
 
-prepared_cause : (wire : WireMeaning) (t : Table) (q : Request) (o : Result ℕ SubmitRefusal) (e : SubmitRefusal) → reference_to_try t q.actor q.lease ≡ o → frame_at wire q.ask o ≡ Err e → SubmitCause wire t q e
-prepared_cause wire t q (Err refusal) e tried is =
-    let same : refusal ≡ e = cc in
-    try_cause wire t q t.closed (holds q.actor q.lease t) (nat_lt (length t.rows) rows_limit) e refl refl refl (tried ∙ ap (λ r. let o : Result ℕ SubmitRefusal = Err r in o) same)
-prepared_cause wire t q (Ok reference) e tried is =
-    let next = tried_is t t.closed (holds q.actor q.lease t) (nat_lt (length t.rows) rows_limit) reference tried in
-    written_cause wire t q (wire.frame_of q.ask reference) e (ap (wire.frame_of q.ask) next) is
+submit_cause_if : (wire : WireMeaning) (t : Table) (q : Request) (closed : Option Reason) (held full : Bool) (r : SubmitRefusal) → t.closed ≡ closed → holds q.actor q.lease t ≡ held → is_full t.requests ≡ full → accepted_of (answer_of (when_open submits.Closed closed (if held then (if full then Err submits.TableFull else with_frame wire t q (wire.frame_of q.ask (reference_to_try t))) else Err submits.NoLease))) ≡ Err r → SubmitCause wire t q r
+submit_cause_if wire t q (Some reason) held full r closed holding many is = let same : submits.Closed reason ≡ r = cc in subst (SubmitCause wire t q) same closed
+submit_cause_if wire t q None false full r closed holding many is = let same : submits.NoLease ≡ r = cc in subst (SubmitCause wire t q) same holding
+submit_cause_if wire t q None true true r closed holding many is =
+    let same : submits.TableFull ≡ r = cc in
+    let filled : length t.requests.rows ≡ rows_limit = eqb-true (length t.requests.rows) rows_limit many in
+    subst (SubmitCause wire t q) same filled
+submit_cause_if wire t q None true false r closed holding many is = written_cause wire t q (wire.frame_of q.ask (reference_to_try t)) r refl is
 
-drawn_cause : (wire : WireMeaning) (t : Table) (q : Request) (frame free : List ℕ) (e : SubmitRefusal) → t.free ≡ free → accepted_of (answer_of (with_reference t q frame free)) ≡ Err e → SubmitCause wire t q e
-drawn_cause wire t q frame [] e none is = let same : submits.NoReference ≡ e = cc in subst (SubmitCause wire t q) same none
-drawn_cause wire t q frame (reference ∷ rest) e none is = absurd (cc)
-
-framed_cause : (wire : WireMeaning) (t : Table) (q : Request) (o : Result (List ℕ) SubmitRefusal) (e : SubmitRefusal) → prepared wire t q ≡ o → accepted_of (answer_of (with_prepared t q o)) ≡ Err e → SubmitCause wire t q e
-framed_cause wire t q (Err refusal) e made is =
-    let same : refusal ≡ e = cc in prepared_cause wire t q (reference_to_try t q.actor q.lease) e refl (made ∙ ap (λ r. let o : Result (List ℕ) SubmitRefusal = Err r in o) same)
-framed_cause wire t q (Ok frame) e made is = drawn_cause wire t q frame t.free e refl is
-
-pub submit_cause : (wire : WireMeaning) (t : Table) (q : Request) (e : SubmitRefusal) → accepted_of (answer_of (submit wire t q)) ≡ Err e → SubmitCause wire t q e
-submit_cause wire t q e is = framed_cause wire t q (prepared wire t q) e refl (ap (λ w. accepted_of (answer_of w)) (sym (submit_is wire t q)) ∙ is)
-
-pub submit_shut : (wire : WireMeaning) (t : Table) (q : Request) (reason : Reason) → t.closed ≡ Some reason → accepted_of (answer_of (submit wire t q)) ≡ Err (submits.Closed reason)
-submit_shut wire t q reason is =
-    let tried : reference_to_try t q.actor q.lease ≡ Err (submits.Closed reason) = shut submits.Closed t.closed (if holds q.actor q.lease t then (if nat_lt (length t.rows) rows_limit then Ok (next_reference t.free) else Err submits.TableFull) else Err submits.NoLease) reason is in
-    ap (λ w. accepted_of (answer_of w)) (submit_is wire t q) ∙ ap (λ o. accepted_of (answer_of (with_prepared t q (frame_at wire q.ask o)))) tried
+pub submit_cause : (wire : WireMeaning) (t : Table) (q : Request) (r : SubmitRefusal) → accepted_of (answer_of (submit wire t q)) ≡ Err r → SubmitCause wire t q r
+submit_cause wire t q r is = submit_cause_if wire t q t.closed (holds q.actor q.lease t) (is_full t.requests) r refl refl refl is
 
 -- ---- TakeSend
 
-abbrev pub SendCause : Settings → Table → SendRefusal → Type 0
-SendCause s t (sends.Closed reason) = t.closed ≡ Some reason
-SendCause s t sends.Nothing = CannotSend s t
+abbrev pub SendCause : Table → SendRefusal → Type 0
+SendCause t (sends.Closed reason) = t.closed ≡ Some reason
+SendCause t sends.Nothing = CannotSend t
 
-send_cause_frame : (s : Settings) (t : Table) (row : Row) (phase : Phase) (e : SendRefusal) → phase_queued phase ≡ true → answer_of (with_queued_frame t row phase) ≡ Err e → SendCause s t e
-send_cause_frame s t row (Queued frame) e queued is = absurd (cc)
-send_cause_frame s t row Sent e queued is = absurd (cc)
-send_cause_frame s t row (Ended outcome) e queued is = absurd (cc)
+send_row_cause : (t : Table) (o : Option (Row Handed Outcome)) (r : SendRefusal) → find is_queued t.requests.rows ≡ o → answer_of (sending_as t (sent_from t.requests o)) ≡ Err r → SendCause t r
+send_row_cause t None r found is = let same : sends.Nothing ≡ r = cc in let none : CannotSend t = inl found in subst (SendCause t) same none
+send_row_cause t (Some row) r found is = absurd (cc)
 
-send_cause_row : (s : Settings) (t : Table) (o : Option Row) (e : SendRefusal) → find is_queued t.rows ≡ o → answer_of (with_queued t o) ≡ Err e → SendCause s t e
-send_cause_row s t None e found is = let same : sends.Nothing ≡ e = cc in let none : CannotSend s t = inl found in subst (SendCause s t) same none
-send_cause_row s t (Some row) e found is = send_cause_frame s t row row.phase e (found_passes is_queued t.rows row found) is
+send_cause_if : (t : Table) (closed : Option Reason) (b : Bool) (r : SendRefusal) → count_by is_sent t.requests.rows ≤ t.requests.window → t.closed ≡ closed → nat_lt (count_by is_sent t.requests.rows) t.requests.window ≡ b → answer_of (when_open sends.Closed closed (sending_as t (if b then sent_from t.requests (find is_queued t.requests.rows) else None))) ≡ Err r → SendCause t r
+send_cause_if t None true r few closed room is = send_row_cause t (find is_queued t.requests.rows) r refl is
+send_cause_if t None false r few closed room is =
+    let same : sends.Nothing ≡ r = cc in
+    let least : t.requests.window ≤ count_by is_sent t.requests.rows = grind (arith, nat_tests) in
+    let none : CannotSend t = inr (omega arith) in subst (SendCause t) same none
+send_cause_if t (Some reason) b r few closed room is = let same : sends.Closed reason ≡ r = cc in subst (SendCause t) same closed
 
-send_cause_if : (s : Settings) (t : Table) (closed : Option Reason) (b : Bool) (e : SendRefusal) → IsBounded s t → t.closed ≡ closed → nat_lt (count_by is_sent t.rows) s.window ≡ b → answer_of (when_open sends.Closed closed (if b then with_queued t (find is_queued t.rows) else Err sends.Nothing)) ≡ Err e → SendCause s t e
-send_cause_if s t None true e bounds closed room is = send_cause_row s t (find is_queued t.rows) e refl is
-send_cause_if s t None false e bounds closed room is =
-    let same : sends.Nothing ≡ e = cc in
-    let least : s.window ≤ count_by is_sent t.rows = grind (arith, nat_tests) in
-    let most = bounds.sent in
-    let none : CannotSend s t = inr (omega arith) in subst (SendCause s t) same none
-send_cause_if s t (Some reason) b e bounds closed room is = let same : sends.Closed reason ≡ e = cc in subst (SendCause s t) same closed
-
-pub send_cause : (s : Settings) (t : Table) (e : SendRefusal) → IsBounded s t → answer_of (take_send s t) ≡ Err e → SendCause s t e
-send_cause s t e bounds is = send_cause_if s t t.closed (nat_lt (count_by is_sent t.rows) s.window) e bounds refl refl is
-
--- ---- Frame
-
-frame_cause_if : (closed : Option Reason) (p : Table × FrameAnswer) (reason : Reason) → answer_of (when_open frames.Closed closed (Ok p)) ≡ Err (frames.Closed reason) → closed ≡ Some reason
-frame_cause_if None p reason is = cc
-frame_cause_if (Some other) p reason is = cc
-
-pub frame_cause : (wire : WireMeaning) (t : Table) (bytes : List ℕ) (reason : Reason) → answer_of (apply_frame wire t bytes) ≡ Err (frames.Closed reason) → t.closed ≡ Some reason
-frame_cause wire t bytes reason is = frame_cause_if t.closed (received wire t bytes (wire.reading_of bytes)) reason is
+pub send_cause : (t : Table) (r : SendRefusal) → count_by is_sent t.requests.rows ≤ t.requests.window → answer_of (take_send t) ≡ Err r → SendCause t r
+send_cause t r few is = send_cause_if t t.closed (nat_lt (count_by is_sent t.requests.rows) t.requests.window) r few refl refl is
 
 -- ---- Cancel
 
-abbrev pub CancelCause : Table → ℕ → ℕ → CancelRefusal → Type 0
+abbrev pub CancelCause : Table → (actor id : ℕ) → CancelRefusal → Type 0
 CancelCause t actor id (cancels.AlreadyEnded kind) = HasEndedRow t actor id kind
 CancelCause t actor id cancels.NoRequest = HasNoRow t actor id
 
-cancel_cause_phase : (t : Table) (actor id : ℕ) (row : Row) (phase : Phase) (e : CancelRefusal) → find (is_row_of actor id) t.rows ≡ Some row → row.phase ≡ phase → answer_of (cancel_row t actor id row phase) ≡ Err e → CancelCause t actor id e
-cancel_cause_phase t actor id row (Queued frame) e found phase is = absurd (cc)
-cancel_cause_phase t actor id row Sent e found phase is = absurd (cc)
-cancel_cause_phase t actor id row (Ended outcome) e found phase is =
-    let same : cancels.AlreadyEnded outcome.kind ≡ e = cc in
-    subst (CancelCause t actor id) same (record { row = row; outcome = outcome; found = found; ended = phase; kind_is = refl })
+cancel_cause_if : (t : Table) (actor id : ℕ) (o : Option (Phase Outcome)) (r : CancelRefusal) → phase_of actor id t.requests ≡ o → answer_of (cancel_as id t o) ≡ Err r → CancelCause t actor id r
+cancel_cause_if t actor id None r found is = let same : cancels.NoRequest ≡ r = cc in subst (CancelCause t actor id) same found
+cancel_cause_if t actor id (Some Queued) r found is = absurd (cc)
+cancel_cause_if t actor id (Some Sent) r found is = absurd (cc)
+cancel_cause_if t actor id (Some (Ended outcome)) r found is =
+    let same : cancels.AlreadyEnded outcome.kind ≡ r = cc in
+    subst (CancelCause t actor id) same (record { outcome = outcome; ended = found; kind_is = refl })
 
-cancel_cause_row : (t : Table) (actor id : ℕ) (o : Option Row) (e : CancelRefusal) → find (is_row_of actor id) t.rows ≡ o → answer_of (with_cancelled t actor id o) ≡ Err e → CancelCause t actor id e
-cancel_cause_row t actor id None e found is = let same : cancels.NoRequest ≡ e = cc in subst (CancelCause t actor id) same found
-cancel_cause_row t actor id (Some row) e found is = cancel_cause_phase t actor id row row.phase e found refl is
+pub cancel_cause : (t : Table) (actor id : ℕ) (r : CancelRefusal) → answer_of (cancel t actor id) ≡ Err r → CancelCause t actor id r
+cancel_cause t actor id r is = cancel_cause_if t actor id (phase_of actor id t.requests) r refl is
 
-pub cancel_cause : (t : Table) (actor id : ℕ) (e : CancelRefusal) → answer_of (cancel t actor id) ≡ Err e → CancelCause t actor id e
-cancel_cause t actor id e is = cancel_cause_row t actor id (find (is_row_of actor id) t.rows) e refl is
+cancel_live_if : (t : Table) (actor id : ℕ) (o : Option (Phase Outcome)) → phase_of actor id t.requests ≡ o → answer_of (cancel_as id t o) ≡ Ok tt → HasLiveRow t actor id
+cancel_live_if t actor id None found is = absurd (cc)
+cancel_live_if t actor id (Some Queued) found is = record { phase = Queued; found = found; live = refl }
+cancel_live_if t actor id (Some Sent) found is = record { phase = Sent; found = found; live = refl }
+cancel_live_if t actor id (Some (Ended outcome)) found is = absurd (cc)
+
+pub cancel_live : (t : Table) (actor id : ℕ) → answer_of (cancel t actor id) ≡ Ok tt → HasLiveRow t actor id
+cancel_live t actor id is = cancel_live_if t actor id (phase_of actor id t.requests) refl is
 
 -- ---- Collect
 
-abbrev pub TakeCause : Table → ℕ → ℕ → TakeRefusal → Type 0
-TakeCause t actor id takes.Pending = HasLiveRow t actor id
-TakeCause t actor id takes.NoRequest = HasNoRow t actor id
+abbrev pub TakeCause : Table → (actor id : ℕ) → TakeRefusal → Type 0
+TakeCause t actor id take_refusals.Pending = HasLiveRow t actor id
+TakeCause t actor id take_refusals.NoRequest = HasNoRow t actor id
 
-collect_cause_phase : (t : Table) (actor id : ℕ) (row : Row) (phase : Phase) (e : TakeRefusal) → find (is_row_of actor id) t.rows ≡ Some row → row.phase ≡ phase → answer_of (collect_row t actor id phase) ≡ Err e → TakeCause t actor id e
-collect_cause_phase t actor id row (Queued frame) e found phase is =
-    let same : takes.Pending ≡ e = cc in subst (TakeCause t actor id) same (record { row = row; found = found; live = ap phase_ended phase })
-collect_cause_phase t actor id row Sent e found phase is =
-    let same : takes.Pending ≡ e = cc in subst (TakeCause t actor id) same (record { row = row; found = found; live = ap phase_ended phase })
-collect_cause_phase t actor id row (Ended outcome) e found phase is = absurd (cc)
+collect_cause_if : (t : Table) (actor id : ℕ) (o : Option (Phase Outcome)) (r : TakeRefusal) → phase_of actor id t.requests ≡ o → answer_of (collected_as t (taken_from actor id t.requests o)) ≡ Err r → TakeCause t actor id r
+collect_cause_if t actor id None r found is = let same : take_refusals.NoRequest ≡ r = cc in subst (TakeCause t actor id) same found
+collect_cause_if t actor id (Some Queued) r found is = let same : take_refusals.Pending ≡ r = cc in subst (TakeCause t actor id) same (record { phase = Queued; found = found; live = refl })
+collect_cause_if t actor id (Some Sent) r found is = let same : take_refusals.Pending ≡ r = cc in subst (TakeCause t actor id) same (record { phase = Sent; found = found; live = refl })
+collect_cause_if t actor id (Some (Ended outcome)) r found is = absurd (cc)
 
-collect_cause_row : (t : Table) (actor id : ℕ) (o : Option Row) (e : TakeRefusal) → find (is_row_of actor id) t.rows ≡ o → answer_of (with_collected t actor id o) ≡ Err e → TakeCause t actor id e
-collect_cause_row t actor id None e found is = let same : takes.NoRequest ≡ e = cc in subst (TakeCause t actor id) same found
-collect_cause_row t actor id (Some row) e found is = collect_cause_phase t actor id row row.phase e found refl is
-
-pub collect_cause : (t : Table) (actor id : ℕ) (e : TakeRefusal) → answer_of (collect t actor id) ≡ Err e → TakeCause t actor id e
-collect_cause t actor id e is = collect_cause_row t actor id (find (is_row_of actor id) t.rows) e refl is
-
--- ---- Cancel and Collect on a closed table
-
-ended_cancel : (t : Table) (actor id : ℕ) (row : Row) (phase : Phase) (r : Result (Unit {0}) CancelRefusal) → phase_ended phase ≡ true → r ≡ answer_of (cancel_row t actor id row phase) → IsErr r
-ended_cancel t actor id row (Queued frame) r ended given = absurd (cc)
-ended_cancel t actor id row Sent r ended given = absurd (cc)
-ended_cancel t actor id row (Ended outcome) r ended given = subst (λ (o : Result (Unit {0}) CancelRefusal). IsErr o) (sym given) refl
-
-ended_cancel_row : (t : Table) (actor id : ℕ) (o : Option Row) (r : Result (Unit {0}) CancelRefusal) → find (is_row_of actor id) t.rows ≡ o → All (λ row. is_ended row ≡ true) t.rows → r ≡ answer_of (with_cancelled t actor id o) → IsErr r
-ended_cancel_row t actor id None r found ended given = subst (λ (o : Result (Unit {0}) CancelRefusal). IsErr o) (sym given) refl
-ended_cancel_row t actor id (Some row) r found ended given = ended_cancel t actor id row row.phase r (all_found (λ row. is_ended row ≡ true) (is_row_of actor id) t.rows row found ended) given
-
--- where each row has ended none is cancelled, and none is pending
-pub cancel_shut : (t : Table) (actor id : ℕ) (r : Result (Unit {0}) CancelRefusal) → All (λ row. is_ended row ≡ true) t.rows → r ≡ answer_of (cancel t actor id) → IsErr r
-cancel_shut t actor id r ended given = ended_cancel_row t actor id (find (is_row_of actor id) t.rows) r refl ended given
-
-ended_collect : (t : Table) (actor id : ℕ) (phase : Phase) → phase_ended phase ≡ true → answer_of (collect_row t actor id phase) ≡ Err takes.Pending → ⊥
-ended_collect t actor id (Queued frame) ended is = cc
-ended_collect t actor id Sent ended is = cc
-ended_collect t actor id (Ended outcome) ended is = cc
-
-ended_collect_row : (t : Table) (actor id : ℕ) (o : Option Row) → find (is_row_of actor id) t.rows ≡ o → All (λ row. is_ended row ≡ true) t.rows → answer_of (with_collected t actor id o) ≡ Err takes.Pending → ⊥
-ended_collect_row t actor id None found ended is = cc
-ended_collect_row t actor id (Some row) found ended is = ended_collect t actor id row.phase (all_found (λ row. is_ended row ≡ true) (is_row_of actor id) t.rows row found ended) is
-
-pub collect_shut : (t : Table) (actor id : ℕ) → All (λ row. is_ended row ≡ true) t.rows → answer_of (collect t actor id) ≡ Err takes.Pending → ⊥
-collect_shut t actor id ended is = ended_collect_row t actor id (find (is_row_of actor id) t.rows) refl ended is
+pub collect_cause : (t : Table) (actor id : ℕ) (r : TakeRefusal) → answer_of (collect t actor id) ≡ Err r → TakeCause t actor id r
+collect_cause t actor id r is = collect_cause_if t actor id (phase_of actor id t.requests) r refl is

@@ -1,204 +1,177 @@
--- Each entry of a legal journal is a step on the table of the entries before it, and says what that step says.
-use Rattle.std.proofs.Common.{◌≡◌, ℕ, ◌+◌, Bool, true, false, List, Option, Some, None, Ok, refl, sym, ap, ◌∙◌, subst, arith, take, Err, length}
-use Rattle.std.specs.Prelude.{◌==◌, All}
-use Rattle.std.specs.List.{find, list_any, slice_get}
-use Rattle.std.proofs.lemmas.Bool.Decides.{nat_tests}
-use Rattle.std.proofs.lemmas.Bool.{and_parts}
+-- What each entry of a legal journal says, by its step.
+use Rattle.std.proofs.Common.{◌≡◌, ◌⊎◌, inl, inr, ℕ, zero, suc, ◌+◌, ◌<◌, ◌≤◌, Bool, true, false, List, [], ◌∷◌, ◌++◌, length, take, refl, sym, ap, subst, ◌∙◌, arith, Option, Some, None, Ok, Err, length-append}
+use Rattle.std.specs.Prelude.{Result, if◌then◌else◌, nat_lt}
+use Rattle.std.specs.List.{list_any, slice_get}
+use Rattle.lease_core.specs.LeaseSteps.{asked_answer, is_held_at_once}
+use Rattle.lease_core.specs.LeaseTables.{LeaseTable, is_lease_of, waiters_limit}
+use Rattle.lease_core.specs.declared.answers.LeaseAnswer.{LeaseAnswer}
+use Rattle.lease_core.specs.declared.answers.LeaseAnswer.TheVariants as lease_answers
+use Rattle.txn_core.specs.RowSteps.{awaiting}
+use Rattle.txn_core.specs.RowTables.{Row, is_quarantined}
 use Rattle.node_tree.specs.declared.readings.Reading.{Reading}
+use Rattle.wire_frames.specs.WireMeaning.{WireMeaning}
+use Rattle.wire_frames.specs.declared.asks.Ask.{Ask}
+use Rattle.wire_frames.specs.declared.ends.FrameWhy.{FrameWhy}
 use Rattle.wire_frames.specs.declared.ends.Outcome.{Outcome}
-use Rattle.conn_core.specs.EntryLaw.{AreSteps, EntryLaw, HandedIn, IsReplyTo}
-use Rattle.conn_core.specs.HandedOut.{IsCollected, IsSending}
+use Rattle.wire_frames.specs.declared.ends.Reason.{Reason}
+use Rattle.conn_core.specs.EntryLaw.{EntryLaw}
 use Rattle.conn_core.specs.Journals.{Legal, table_of}
-use Rattle.conn_core.specs.RowLaw.{IsRowOf}
-use Rattle.conn_core.specs.Steps.{asked_answer, asked_if, frame_answer, without_row}
-use Rattle.conn_core.specs.Tables.{Connection, Table, at_moment, holds, is_lease_of, is_queued, is_reference, is_row_of, is_sent, is_sent_with}
-use Rattle.conn_core.specs.declared.answers.Sending.{Sending}
+use Rattle.conn_core.specs.Steps.{Request, Started, apply_frame, arrived, ask_lease, asked_entry, counted, frame_entry, received, step, submit, when_open, with_lease}
+use Rattle.conn_core.specs.Tables.{Connection, Handed, Table, at_moment, holds}
+use Rattle.conn_core.specs.declared.answers.AskRefusal.TheVariants as asks
+use Rattle.conn_core.specs.declared.answers.FrameAnswer.{FrameAnswer}
+use Rattle.conn_core.specs.declared.answers.FrameRefusal.TheVariants as frames
 use Rattle.conn_core.specs.declared.entries.Answer.{Answer}
 use Rattle.conn_core.specs.declared.entries.Answer.TheVariants as answers
 use Rattle.conn_core.specs.declared.entries.Entry.{Entry}
-use Rattle.conn_core.specs.declared.entries.Event.{Event}
-use Rattle.conn_core.specs.declared.entries.Event.TheVariants.{AskLease, Submit, TakeSend, Frame, Cancel, Collect}
-use Rattle.conn_core.specs.declared.rows.Row.{Row}
-use Rattle.conn_core.specs.declared.settings.Settings.{Settings}
-use Rattle.conn_core.proofs.AllLemmas.{all_found}
-use Rattle.conn_core.proofs.FirstLemmas.{found_passes}
-use Rattle.conn_core.proofs.FrameLemmas.{reference_is}
-use Rattle.conn_core.proofs.HandedLemmas.{row_collected, row_sending}
-use Rattle.conn_core.proofs.RowLemmas.{sent_place, walked_rows}
-use Rattle.conn_core.proofs.TakenSteps.{Taken, asking, submitting, sending, unread, fitting, arriving, unsent, unanswered, collecting, closing, shutting, step_taken}
-use Rattle.conn_core.proofs.WalkLemmas.{Walked, legal_walked, walked_after, walked_steps, walked_take}
+use Rattle.conn_core.specs.declared.entries.Event.TheVariants as events
+use Rattle.conn_core.proofs.FrameLemmas.{settled_if}
+use Rattle.conn_core.proofs.StepLaws.{Walked, WalkLaw, begun, legal_walked, open_took, queues, take_more, take_whole, took, walk_law, walked, walked_steps}
 
--- ---- the numbers that a step draws
+-- ---- the entries before a place
 
-abbrev NumberedAt : Table → Event → Answer → Type 0
-NumberedAt t (AskLease now) (answers.Granted lease) = lease ≡ t.leases_drawn + 1
-NumberedAt t (AskLease now) (answers.Waiting lease place) = lease ≡ t.leases_drawn + 1
-NumberedAt t (Submit lease ask timeout now) (answers.Accepted id reference frame) = id ≡ t.requests_drawn + 1
-NumberedAt t (Frame bytes) (answers.Undecodable index why) = index ≡ t.frames_taken
-NumberedAt t _ _ = Unit {0}
+take_none : {X : Type 0} (k : ℕ) → (let none : List X = [] in take k none ≡ none)
+take_none zero = refl
+take_none (suc k) = refl
 
-asked_number : (s : Settings) (t : Table) (actor now : ℕ) (b : Bool) → NumberedAt t (AskLease now) (asked_answer (asked_if b s (at_moment now t) actor).1)
-asked_number s t actor now true = refl
-asked_number s t actor now false = refl
+nat_split : (k n : ℕ) → (k ≤ n) ⊎ (n < k)
+nat_split zero n = inl (omega arith)
+nat_split (suc k) zero = inr (omega arith)
+nat_split (suc k) (suc n) = elim (nat_split k n) [ inl low ↦ inl (omega arith) | inr high ↦ inr (omega arith) ]
 
-late_number : (t : Table) (bytes : List ℕ) (reference : ℕ) (o : Option ℕ) → NumberedAt t (Frame bytes) (frame_answer (without_row t reference o).1)
-late_number t bytes reference None = tt
-late_number t bytes reference (Some r) = tt
+accepted_id : (i r : ℕ) (f : List ℕ) (id reference : ℕ) (frame : List ℕ) → answers.Accepted i r f ≡ answers.Accepted id reference frame → id ≡ i
+accepted_id i r f id reference frame e = cc
 
-numbered : (c : Connection) (t : Table) {e : Entry} {u : Table} → Taken c t e u → NumberedAt t e.event e.answer
-numbered c t (asking actor now opens few) = asked_number c.settings t actor now _
-numbered c t (submitting q frame reference rest drawn) = refl
-numbered c t (sending actor row frame opens few found is) = tt
-numbered c t (unread actor bytes why opens reads) = refl
-numbered c t (fitting actor bytes reading row opens reads found) = tt
-numbered c t (arriving actor bytes reading o opens reads found late) = late_number t bytes (c.wire.reference_of bytes) o
-numbered c t (unsent actor id row frame found is) = tt
-numbered c t (unanswered actor id row found is) = tt
-numbered c t (collecting actor id row outcome found is) = tt
-numbered c t (closing actor reason opens) = tt
-numbered c t (shutting actor opens) = tt
+pub walked_before : (c : Connection) (journal : List Entry) (k : ℕ) → Walked c journal → k ≤ length journal → Walked c (take k journal)
+walked_before c _ k begun low = let none : take k [] ≡ [] = take_none k in let P : List Entry → Type 0 = Walked c in subst P (sym none) begun
+walked_before c _ k (walked journal e u before stepped) low =
+    let P : List Entry → Type 0 = Walked c in
+    elim (nat_split k (length journal)) [
+      | inl within ↦ subst P (sym (take_more journal e k within)) (walked_before c journal k before within)
+      | inr past ↦ (
+          let long = length-append journal (e ∷ []) in
+          subst P (sym (take_whole (journal ++ e ∷ []) k (omega arith))) (walked journal e u before stepped))
+    ]
 
--- ---- whose it is
+pub get_low : {X : Type 0} (xs : List X) (k : ℕ) (x : X) → slice_get xs k ≡ Some x → k < length xs
+get_low [] k x e = cc
+get_low (y ∷ ys) zero x e = omega arith
+get_low (y ∷ ys) (suc k) x e = let rest = get_low ys k x e in omega arith
 
-abbrev OwnAt : List Entry → Table → ℕ → Event → Type 0
-OwnAt xs t actor (Submit lease ask timeout now) = holds actor lease t ≡ true
-OwnAt xs t actor (Cancel id) = HandedIn xs actor id
-OwnAt xs t actor (Collect id) = HandedIn xs actor id
-OwnAt xs t actor _ = Unit {0}
+law_before : (c : Connection) (journal : List Entry) (k : ℕ) (e : Entry) → Walked c journal → slice_get journal k ≡ Some e → WalkLaw c (take k journal) (table_of c (take k journal))
+law_before c journal k e w at = let low = get_low journal k e at in walk_law c (take k journal) (walked_before c journal k w (omega arith))
 
-row_own : (c : Connection) (xs : List Entry) (t : Table) (actor id : ℕ) (row : Row) → find (is_row_of actor id) t.rows ≡ Some row → All (IsRowOf c xs) t.rows → HandedIn xs actor id
-row_own c xs t actor id row found all =
-    let h = all_found (IsRowOf c xs) (is_row_of actor id) t.rows row found all in
-    let both = and_parts (row.id == id) (row.actor == actor) (found_passes (is_row_of actor id) t.rows row found) in
-    let mine : row.id ≡ id = let test = both.0 in grind (arith, nat_tests) in
-    let own : row.actor ≡ actor = let test = both.1 in grind (arith, nat_tests) in
-    let handed : HandedIn xs actor row.id = (h.request, h.actor ∙ own) in subst (HandedIn xs actor) mine handed
+-- ---- AskLease
 
-owned : (c : Connection) (xs : List Entry) (t : Table) {e : Entry} {u : Table} → Taken c t e u → All (IsRowOf c xs) t.rows → OwnAt xs t e.actor e.event
-owned c xs t (asking actor now opens few) all = tt
-owned c xs t (submitting q frame reference rest drawn) all = drawn.held
-owned c xs t (sending actor row frame opens few found is) all = tt
-owned c xs t (unread actor bytes why opens reads) all = tt
-owned c xs t (fitting actor bytes reading row opens reads found) all = tt
-owned c xs t (arriving actor bytes reading o opens reads found late) all = tt
-owned c xs t (unsent actor id row frame found is) all = row_own c xs t actor id row found all
-owned c xs t (unanswered actor id row found is) all = row_own c xs t actor id row found all
-owned c xs t (collecting actor id row outcome found is) all = row_own c xs t actor id row found all
-owned c xs t (closing actor reason opens) all = tt
-owned c xs t (shutting actor opens) all = tt
+ask_given : (t u : Table) (actor now : ℕ) (given : LeaseAnswer) (closed : Option Reason) (b : Bool) → (let p : Table × LeaseAnswer = (with_lease actor (at_moment now t), asked_answer t.leases) in let r : Table × LeaseAnswer = (u, given) in when_open asks.Closed closed (if b then Ok p else Err asks.QueueFull) ≡ Ok r) → asked_answer t.leases ≡ given
+ask_given t u actor now given None true e =
+    let p : Table × LeaseAnswer = (with_lease actor (at_moment now t), asked_answer t.leases) in
+    let r : Table × LeaseAnswer = (u, given) in
+    let same : p ≡ r = cc in
+    ap (λ (x : Table × LeaseAnswer). x.1) same
+ask_given t u actor now given None false e = cc
+ask_given t u actor now given (Some reason) b e = cc
 
--- ---- what a reply answers
+ask_told : (c : Connection) (t u : Table) (actor now : ℕ) (answer : Answer) → step c t actor (events.AskLease now) ≡ Some (u, answer) → asked_entry (asked_answer t.leases) ≡ answer
+ask_told c t u actor now answer e =
+    let took_it = took asked_entry (ask_lease t actor now) u answer e in
+    ap asked_entry (ask_given t u actor now took_it.given t.closed (nat_lt (length t.leases.waiting) waiters_limit) took_it.is) ∙ took_it.told
 
-abbrev RepliesAt : Connection → List Entry → Event → Answer → Type 0
-RepliesAt c xs (Frame bytes) (answers.Ended id kind) = IsReplyTo c xs id bytes kind
-RepliesAt c xs _ _ = Unit {0}
+granted_is : (l : LeaseTable) (b : Bool) (lease : ℕ) → asked_entry (if b then lease_answers.Granted (l.drawn + 1) else lease_answers.Waiting (l.drawn + 1) (length l.waiting)) ≡ answers.Granted lease → lease ≡ l.drawn + 1
+granted_is l true lease e = cc
+granted_is l false lease e = cc
 
-late_reply : (c : Connection) (xs : List Entry) (t : Table) (bytes : List ℕ) (reference : ℕ) (o : Option ℕ) → RepliesAt c xs (Frame bytes) (frame_answer (without_row t reference o).1)
-late_reply c xs t bytes reference None = tt
-late_reply c xs t bytes reference (Some r) = tt
+waiting_is : (l : LeaseTable) (b : Bool) (lease place : ℕ) → asked_entry (if b then lease_answers.Granted (l.drawn + 1) else lease_answers.Waiting (l.drawn + 1) (length l.waiting)) ≡ answers.Waiting lease place → (lease ≡ l.drawn + 1) × (place ≡ length l.waiting)
+waiting_is l true lease place e = cc
+waiting_is l false lease place e = (cc, cc)
 
-row_reply : (c : Connection) (xs : List Entry) (t : Table) (bytes : List ℕ) (reading : Reading) (row : Row) → c.wire.reading_of bytes ≡ Ok reading → find (is_sent_with (c.wire.reference_of bytes)) t.rows ≡ Some row → All (IsRowOf c xs) t.rows → IsReplyTo c xs row.id bytes (c.wire.fit row.ask reading).kind
-row_reply c xs t bytes reading row reads found all =
-    let reference = c.wire.reference_of bytes in
-    let p = is_sent_with reference in
-    let h = all_found (IsRowOf c xs) p t.rows row found all in
-    let both = and_parts (is_reference reference row.reference) (is_sent row) (found_passes p t.rows row found) in
-    let same : row.reference ≡ reference = reference_is reference row.reference _ refl both.0 in
-    let sent = sent_place c xs row.id h.request row.phase both.1 h.phase in
-    record {
-      request = h.request;
-      sent = sent.0;
-      sent_at = sent.1;
-      refers = sym (h.reference ∙ same);
-      reading = reading;
-      reads = reads;
-      fits = ap (λ ask. (c.wire.fit ask reading).kind) (sym h.ask);
-    }
+-- ---- Submit
 
-replied : (c : Connection) (xs : List Entry) (t : Table) {e : Entry} {u : Table} → Taken c t e u → All (IsRowOf c xs) t.rows → RepliesAt c xs e.event e.answer
-replied c xs t (asking actor now opens few) all = tt
-replied c xs t (submitting q frame reference rest drawn) all = tt
-replied c xs t (sending actor row frame opens few found is) all = tt
-replied c xs t (unread actor bytes why opens reads) all = tt
-replied c xs t (fitting actor bytes reading row opens reads found) all = row_reply c xs t bytes reading row reads found all
-replied c xs t (arriving actor bytes reading o opens reads found late) all = late_reply c xs t bytes (c.wire.reference_of bytes) o
-replied c xs t (unsent actor id row frame found is) all = tt
-replied c xs t (unanswered actor id row found is) all = tt
-replied c xs t (collecting actor id row outcome found is) all = tt
-replied c xs t (closing actor reason opens) all = tt
-replied c xs t (shutting actor opens) all = tt
+submit_told : (c : Connection) (t u : Table) (actor lease : ℕ) (ask : Ask) (timeout now id reference : ℕ) (frame : List ℕ) → step c t actor (events.Submit lease ask timeout now) ≡ Some (u, answers.Accepted id reference frame) → id ≡ t.requests.drawn + 1
+submit_told c t u actor lease ask timeout now id reference frame e =
+    let q : Request = record { actor = actor; lease = lease; ask = ask; timeout = timeout; moment = now } in
+    let answer = answers.Accepted id reference frame in
+    let took_it = took (λ (s : Started). answers.Accepted s.id s.reference s.frame) (submit c.wire t q) u answer e in
+    let row = queues c.wire t q u took_it.given took_it.is in
+    let first : took_it.given.id ≡ t.requests.drawn + 1 = ap (λ (s : Started). s.id) row.started_is in
+    accepted_id took_it.given.id took_it.given.reference took_it.given.frame id reference frame took_it.told ∙ first
 
--- ---- what else it says
+submit_holds : (c : Connection) (t u : Table) (actor lease : ℕ) (ask : Ask) (timeout now : ℕ) (answer : Answer) → step c t actor (events.Submit lease ask timeout now) ≡ Some (u, answer) → holds actor lease t ≡ true
+submit_holds c t u actor lease ask timeout now answer e =
+    let q : Request = record { actor = actor; lease = lease; ask = ask; timeout = timeout; moment = now } in
+    let took_it = took (λ (s : Started). answers.Accepted s.id s.reference s.frame) (submit c.wire t q) u answer e in
+    (queues c.wire t q u took_it.given took_it.is).holding
 
--- the frame can be read, with the reference
-abbrev ReadsWith : Connection → List ℕ → ℕ → Type 0
-ReadsWith c bytes reference = (reading : Reading) × (c.wire.reading_of bytes ≡ Ok reading) × (c.wire.reference_of bytes ≡ reference)
+-- ---- Frame
 
-abbrev SaysAt : Connection → List Entry → Table → ℕ → Event → Answer → Type 0
-SaysAt c xs t actor (AskLease now) (answers.Waiting lease place) = place ≡ length t.waiting
-SaysAt c xs t actor TakeSend (answers.Sent id) = (sending : Sending) × (sending.id ≡ id) × IsSending c xs sending
-SaysAt c xs t actor (Frame bytes) (answers.Late reference) = ReadsWith c bytes reference
-SaysAt c xs t actor (Frame bytes) (answers.Stray reference) = ReadsWith c bytes reference
-SaysAt c xs t actor (Frame bytes) (answers.Undecodable index why) = c.wire.reading_of bytes ≡ Err why
-SaysAt c xs t actor (Collect id) (answers.Collected kind) = (outcome : Outcome) × (kind ≡ outcome.kind) × IsCollected c xs actor id outcome
-SaysAt c xs t actor _ _ = Unit {0}
+pub frame_told : (c : Connection) (t u : Table) (actor : ℕ) (bytes : List ℕ) (answer : Answer) → step c t actor (events.Frame bytes) ≡ Some (u, answer) → frame_entry (received c.wire t bytes (c.wire.reading_of bytes)).1 ≡ answer
+frame_told c t u actor bytes answer e =
+    let took_it = took frame_entry (apply_frame c.wire t bytes) u answer e in
+    let opened = open_took frames.Closed t.closed _ (u, took_it.given) took_it.is in
+    let p = received c.wire t bytes (c.wire.reading_of bytes) in
+    let r : Table × FrameAnswer = (u, took_it.given) in
+    let same : p ≡ r = cc in
+    ap (λ (x : Table × FrameAnswer). frame_entry x.1) same ∙ took_it.told
 
-asked_says : (c : Connection) (xs : List Entry) (t : Table) (actor now : ℕ) (b : Bool) → SaysAt c xs t actor (AskLease now) (asked_answer (asked_if b c.settings (at_moment now t) actor).1)
-asked_says c xs t actor now true = tt
-asked_says c xs t actor now false = refl
+-- what a frame is told, by its reading
+abbrev ToldBy : WireMeaning → List ℕ → ℕ → Result Reading FrameWhy → Answer → Type 0
+ToldBy wire bytes index reading (answers.Late reference) = (r : Reading) × (reading ≡ Ok r) × (wire.reference_of bytes ≡ reference)
+ToldBy wire bytes index reading (answers.Stray reference) = (r : Reading) × (reading ≡ Ok r) × (wire.reference_of bytes ≡ reference)
+ToldBy wire bytes index reading (answers.Undecodable i why) = (i ≡ index) × (reading ≡ Err why)
+ToldBy wire bytes index reading _ = Unit {0}
 
-late_says : (c : Connection) (xs : List Entry) (t : Table) (actor : ℕ) (bytes : List ℕ) (reading : Reading) (o : Option ℕ) → c.wire.reading_of bytes ≡ Ok reading → SaysAt c xs t actor (Frame bytes) (frame_answer (without_row t (c.wire.reference_of bytes) o).1)
-late_says c xs t actor bytes reading None reads = (reading, reads, refl)
-late_says c xs t actor bytes reading (Some r) reads = (reading, reads, refl)
+told_without : (wire : WireMeaning) (bytes : List ℕ) (index : ℕ) (reading : Reading) (t : Table) (b : Bool) → ToldBy wire bytes index (Ok reading) (frame_entry (settled_if (wire.reference_of bytes) (counted t) b).1)
+told_without wire bytes index reading t true = (reading, refl, refl)
+told_without wire bytes index reading t false = (reading, refl, refl)
 
-says : (c : Connection) (xs : List Entry) (t : Table) {e : Entry} {u : Table} → Taken c t e u → All (IsRowOf c xs) t.rows → SaysAt c xs t e.actor e.event e.answer
-says c xs t (asking actor now opens few) all = asked_says c xs t actor now _
-says c xs t (submitting q frame reference rest drawn) all = tt
-says c xs t (sending actor row frame opens few found is) all = (_, refl, row_sending c xs row frame (all_found (IsRowOf c xs) is_queued t.rows row found all) is)
-says c xs t (unread actor bytes why opens reads) all = reads
-says c xs t (fitting actor bytes reading row opens reads found) all = tt
-says c xs t (arriving actor bytes reading o opens reads found late) all = late_says c xs t actor bytes reading o reads
-says c xs t (unsent actor id row frame found is) all = tt
-says c xs t (unanswered actor id row found is) all = tt
-says c xs t (collecting actor id row outcome found is) all =
-    let p = is_row_of actor id in
-    (outcome, refl, row_collected c xs actor id row outcome (all_found (IsRowOf c xs) p t.rows row found all) (found_passes p t.rows row found) is)
-says c xs t (closing actor reason opens) all = tt
-says c xs t (shutting actor opens) all = tt
+told_arrived : (wire : WireMeaning) (bytes : List ℕ) (index : ℕ) (reading : Reading) (t : Table) (found : Option (Row Handed Outcome)) → ToldBy wire bytes index (Ok reading) (frame_entry (arrived wire (wire.reference_of bytes) reading (counted t) found).1)
+told_arrived wire bytes index reading t None = told_without wire bytes index reading t (is_quarantined (wire.reference_of bytes) t.requests)
+told_arrived wire bytes index reading t (Some row) = tt
+
+told_received : (wire : WireMeaning) (bytes : List ℕ) (t : Table) (reading : Result Reading FrameWhy) → ToldBy wire bytes t.frames reading (frame_entry (received wire t bytes reading).1)
+told_received wire bytes t (Ok reading) = told_arrived wire bytes t.frames reading t (awaiting (wire.reference_of bytes) t.requests)
+told_received wire bytes t (Err why) = (refl, refl)
+
+told_by : (c : Connection) (t u : Table) (actor : ℕ) (bytes : List ℕ) (answer : Answer) → step c t actor (events.Frame bytes) ≡ Some (u, answer) → ToldBy c.wire bytes t.frames (c.wire.reading_of bytes) answer
+told_by c t u actor bytes answer e =
+    let P : Answer → Type 0 = ToldBy c.wire bytes t.frames (c.wire.reading_of bytes) in
+    subst P (frame_told c t u actor bytes answer e) (told_received c.wire bytes t (c.wire.reading_of bytes))
 
 -- ---- the law
 
--- an entry of a walk was taken by the table before it
-taken_at : (c : Connection) (xs : List Entry) → AreSteps c xs → (k : ℕ) (e : Entry) → slice_get xs k ≡ Some e → Taken c (table_of c (take k xs)) (record { actor = e.actor; event = e.event; answer = e.answer }) (table_of c (take (k + 1) xs))
-taken_at c xs steps k e stands = step_taken c (table_of c (take k xs)) e.actor e.event (table_of c (take (k + 1) xs)) e.answer (steps k e stands)
-
-walked_entries : (c : Connection) (xs : List Entry) → Walked c xs → AreSteps c xs → EntryLaw c xs
-walked_entries c xs walked steps = record {
-  steps = steps;
-  granted_number = λ k actor now lease stands. numbered c (table_of c (take k xs)) (taken_at c xs steps k _ stands) ∙ ap (λ n. n + 1) (walked_after c (walked_take c k walked)).asks;
-  waiting_number = λ k actor now lease place stands. numbered c (table_of c (take k xs)) (taken_at c xs steps k _ stands) ∙ ap (λ n. n + 1) (walked_after c (walked_take c k walked)).asks;
-  request_number = λ k actor lease ask timeout now id reference frame stands. numbered c (table_of c (take k xs)) (taken_at c xs steps k _ stands) ∙ ap (λ n. n + 1) (walked_after c (walked_take c k walked)).requests;
-  frame_number = λ k actor bytes index why stands. numbered c (table_of c (take k xs)) (taken_at c xs steps k _ stands) ∙ (walked_after c (walked_take c k walked)).frames;
-  waiting_place = λ k actor now lease place stands.
-      let before = walked_take c k walked in
-      says c (take k xs) (table_of c (take k xs)) (taken_at c xs steps k _ stands) (walked_rows c before).requests ∙ ap (λ l. length l.waiting) (walked_after c before).leases;
-  sent = λ k actor id stands. says c (take k xs) (table_of c (take k xs)) (taken_at c xs steps k _ stands) (walked_rows c (walked_take c k walked)).requests;
-  collected = λ k actor id kind stands. says c (take k xs) (table_of c (take k xs)) (taken_at c xs steps k _ stands) (walked_rows c (walked_take c k walked)).requests;
-  held = λ k actor lease ask timeout now answer stands.
-      let before = walked_take c k walked in
-      subst (λ leases. list_any (is_lease_of actor lease) leases ≡ true) (ap (λ l. l.held) (walked_after c before).leases) (owned c (take k xs) (table_of c (take k xs)) (taken_at c xs steps k _ stands) (walked_rows c before).requests);
-  own_cancelled = λ k actor id answer stands. owned c (take k xs) (table_of c (take k xs)) (taken_at c xs steps k _ stands) (walked_rows c (walked_take c k walked)).requests;
-  own_collected = λ k actor id answer stands. owned c (take k xs) (table_of c (take k xs)) (taken_at c xs steps k _ stands) (walked_rows c (walked_take c k walked)).requests;
-  replies = λ k actor bytes id kind stands. replied c (take k xs) (table_of c (take k xs)) (taken_at c xs steps k _ stands) (walked_rows c (walked_take c k walked)).requests;
-  late = λ k actor bytes reference stands.
-      let is = says c (take k xs) (table_of c (take k xs)) (taken_at c xs steps k _ stands) (walked_rows c (walked_take c k walked)).requests in
-      record { actor = actor; bytes = bytes; reading = is.0; stands = stands; reads = is.1; refers = is.2 };
-  stray = λ k actor bytes reference stands.
-      let is = says c (take k xs) (table_of c (take k xs)) (taken_at c xs steps k _ stands) (walked_rows c (walked_take c k walked)).requests in
-      record { actor = actor; bytes = bytes; reading = is.0; stands = stands; reads = is.1; refers = is.2 };
-  unread = λ k actor bytes index why stands. says c (take k xs) (table_of c (take k xs)) (taken_at c xs steps k _ stands) (walked_rows c (walked_take c k walked)).requests;
-}
-
--- what each entry of a legal journal says by those before it
-pub legal_entries : (c : Connection) (journal : List Entry) → Legal c journal → EntryLaw c journal
-legal_entries c journal legal = let walked = legal_walked c legal in walked_entries c journal walked (walked_steps c walked)
+pub entry_law : (c : Connection) (journal : List Entry) → Legal c journal → EntryLaw c journal
+entry_law c journal legal =
+    let w = legal_walked c journal legal in
+    let steps = walked_steps c journal w in
+    let at_place : (k : ℕ) → Table = λ k. table_of c (take k journal) in
+    record {
+      steps = steps;
+      granted_number = λ k actor now lease at.
+          let law = law_before c journal k _ w at in
+          let t = at_place k in
+          granted_is t.leases (is_held_at_once t.leases) lease (ask_told c t _ actor now (answers.Granted lease) (steps k _ at)) ∙ ap (λ n. n + 1) law.asks;
+      waiting_number = λ k actor now lease place at.
+          let law = law_before c journal k _ w at in
+          let t = at_place k in
+          (waiting_is t.leases (is_held_at_once t.leases) lease place (ask_told c t _ actor now (answers.Waiting lease place) (steps k _ at))).0 ∙ ap (λ n. n + 1) law.asks;
+      request_number = λ k actor lease ask timeout now id reference frame at.
+          let law = law_before c journal k _ w at in
+          submit_told c (at_place k) _ actor lease ask timeout now id reference frame (steps k _ at) ∙ ap (λ n. n + 1) law.requests;
+      frame_number = λ k actor bytes index why at.
+          let law = law_before c journal k _ w at in
+          (told_by c (at_place k) _ actor bytes (answers.Undecodable index why) (steps k _ at)).0 ∙ law.frames;
+      waiting_place = λ k actor now lease place at.
+          let law = law_before c journal k _ w at in
+          let t = at_place k in
+          (waiting_is t.leases (is_held_at_once t.leases) lease place (ask_told c t _ actor now (answers.Waiting lease place) (steps k _ at))).1 ∙ ap (λ (l : LeaseTable). length l.waiting) law.leases;
+      held = λ k actor lease ask timeout now answer at.
+          let law = law_before c journal k _ w at in
+          ap (λ (l : LeaseTable). list_any (is_lease_of actor lease) l.held) (sym law.leases) ∙ submit_holds c (at_place k) _ actor lease ask timeout now answer (steps k _ at);
+      late = λ k actor bytes reference at.
+          let told = told_by c (at_place k) _ actor bytes (answers.Late reference) (steps k _ at) in
+          record { actor = actor; bytes = bytes; reading = told.0; stands = at; reads = told.1; refers = told.2 };
+      stray = λ k actor bytes reference at.
+          let told = told_by c (at_place k) _ actor bytes (answers.Stray reference) (steps k _ at) in
+          record { actor = actor; bytes = bytes; reading = told.0; stands = at; reads = told.1; refers = told.2 };
+      unread = λ k actor bytes index why at. (told_by c (at_place k) _ actor bytes (answers.Undecodable index why) (steps k _ at)).1;
+    }

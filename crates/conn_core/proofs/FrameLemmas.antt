@@ -1,45 +1,84 @@
--- How the program's lists follow a frame.
-use Rattle.std.proofs.Common.{◌≡◌, ℕ, Bool, true, arith, List, [], ◌∷◌, ◌++◌, Some, set, get_or, refl, sym, ap, ◌∙◌}
-use Rattle.std.specs.List.{find}
-use Rattle.std.proofs.lemmas.Bool.Decides.{nat_tests}
-use Rattle.std.proofs.lemmas.Bool.{and_parts}
+-- What a frame does to what is kept is what it does to the table.
+use Rattle.std.proofs.Common.{◌≡◌, inl, ℕ, ◌+◌, Bool, true, false, List, refl, sym, ap, subst, ◌∙◌, Option, Some, None, Ok, Err}
+use Rattle.std.specs.Prelude.{Result, if◌then◌else◌}
+use Rattle.txn_core.specs.RowSteps.{answer_of, awaiting, settled, table_or}
+use Rattle.txn_core.specs.RowTables.{Row, is_quarantined}
 use Rattle.node_tree.specs.declared.readings.Reading.{Reading}
 use Rattle.wire_frames.specs.WireMeaning.{WireMeaning}
+use Rattle.wire_frames.specs.declared.ends.FrameWhy.{FrameWhy}
 use Rattle.wire_frames.specs.declared.ends.Outcome.{Outcome}
-use Rattle.conn_core.specs.Finds.{IsFirstAt, change_first}
-use Rattle.conn_core.specs.Rooms.{phase_entries, phase_references, references_kept, entries_of}
-use Rattle.conn_core.specs.Steps.{arrived}
-use Rattle.conn_core.specs.Tables.{Table, ended_row, is_reference, is_sent, is_sent_with, phase_sent}
-use Rattle.conn_core.specs.declared.rows.Phase.{Phase}
-use Rattle.conn_core.specs.declared.rows.Phase.TheVariants.{Queued, Sent, Ended}
-use Rattle.conn_core.specs.declared.rows.Row.{Row}
+use Rattle.wire_frames.specs.declared.ends.Reason.TheVariants as reasons
+use Rattle.conn_core.specs.KeptMoves.{Arrives, MovesOrNoMemory}
+use Rattle.conn_core.specs.KeptSteps.{undecodable_kept}
+use Rattle.conn_core.specs.KeptTables.{Stands}
+use Rattle.conn_core.specs.Steps.{apply_frame, arrived, closed_by, counted, received, when_open}
+use Rattle.conn_core.specs.Tables.{Handed, Table}
+use Rattle.conn_core.specs.declared.answers.FrameAnswer.{FrameAnswer}
+use Rattle.conn_core.specs.declared.answers.FrameAnswer.TheVariants as frame_answers
+use Rattle.conn_core.specs.declared.answers.FrameRefusal.TheVariants as frame_refusals
+use Rattle.conn_core.specs.declared.entries.Entry.{Entry}
+use Rattle.conn_core.specs.declared.table.KeptTable.{KeptTable}
+use Rattle.conn_core.proofs.StandLemmas.{closed_stands}
 
-phase_keeps : (phase : Phase) → phase_sent phase ≡ true → phase_references phase ≡ 1
-phase_keeps (Queued frame) h = refl
-phase_keeps Sent h = refl
-phase_keeps (Ended outcome) h = cc
+-- ---- a frame is counted
 
-phase_causes : (phase : Phase) → phase_sent phase ≡ true → phase_entries phase ≡ 2
-phase_causes (Queued frame) h = cc
-phase_causes Sent h = refl
-phase_causes (Ended outcome) h = cc
+pub counted_kept_stands : (journal : List Entry) (k : KeptTable) (t : Table) → Stands journal k t → (let m : KeptTable = record k { frames = k.frames + 1 } in Stands journal m (counted t))
+counted_kept_stands journal k t s = record {
+  requests = s.requests;
+  leases = s.leases;
+  clock = s.clock;
+  closed = s.closed;
+  frames = ap (λ n. n + 1) s.frames;
+  handed = s.handed;
+}
 
--- a reference that is found is the one that was sought
-pub reference_is : (reference r : ℕ) (b : Bool) → is_reference reference r ≡ b → b ≡ true → r ≡ reference
-reference_is reference r b is h = let same : is_reference reference r ≡ true = is ∙ h in grind (arith, nat_tests)
+abbrev counted_pair : Table × FrameAnswer → Table × FrameAnswer
+counted_pair p = (counted p.0, p.1)
 
--- a row that was sent keeps its reference, and can end and be collected
-pub sent_keeps : (reference : ℕ) (row : Row) → is_sent_with reference row ≡ true → references_kept row ≡ 1
-sent_keeps reference row h = phase_keeps row.phase ((and_parts _ (is_sent row) h).1)
+abbrev pub settled_if : ℕ → Table → Bool → Table × FrameAnswer
+settled_if reference t b = if b then (record t { requests = settled reference t.requests }, frame_answers.Late reference) else (t, frame_answers.Stray reference)
 
-pub sent_causes : (reference : ℕ) (row : Row) → is_sent_with reference row ≡ true → entries_of row ≡ 2
-sent_causes reference row h = phase_causes row.phase ((and_parts _ (is_sent row) h).1)
+without_counted : (reference : ℕ) (t : Table) (b : Bool) → settled_if reference (counted t) b ≡ counted_pair (settled_if reference t b)
+without_counted reference t true = refl
+without_counted reference t false = refl
 
-pub arrives : (wire : WireMeaning) (t : Table) (reference at : ℕ) (reading : Reading) (row now : Row) (outcome : Outcome) (free : List ℕ) → IsFirstAt (is_sent_with reference) t.rows at → row ≡ get_or t.rows at row → outcome ≡ wire.fit row.ask reading → now ≡ ended_row outcome row → free ≡ t.free ++ reference ∷ []
-    → record t { rows = set t.rows at now; free = free } ≡ (arrived wire t reference reading (find (is_sent_with reference) t.rows)).0
-arrives wire t reference at reading row now outcome free first is fits ends frees =
-    let p = is_sent_with reference in
-    let call : (arrived wire t reference reading (find p t.rows)).0 ≡ (arrived wire t reference reading (Some row)).0 = ap (λ o. (arrived wire t reference reading o).0) (first.found row (sym is)) in
-    let rows : set t.rows at now ≡ change_first p (ended_row (wire.fit row.ask reading)) t.rows =
-    ap (set t.rows at) (ends ∙ ap (λ o. ended_row o row) fits) ∙ sym (first.changed (ended_row (wire.fit row.ask reading)) row (sym is)) in
-    ap (λ rs. record t { rows = rs; free = free }) rows ∙ ap (λ fs. record t { rows = change_first p (ended_row (wire.fit row.ask reading)) t.rows; free = fs }) frees ∙ sym call
+pub arrived_counted : (wire : WireMeaning) (reference : ℕ) (reading : Reading) (t : Table) (found : Option (Row Handed Outcome)) → arrived wire reference reading (counted t) found ≡ (counted (arrived wire reference reading t found).0, (arrived wire reference reading t found).1)
+arrived_counted wire reference reading t None = without_counted reference t (is_quarantined reference t.requests)
+arrived_counted wire reference reading t (Some row) = refl
+
+-- ---- a frame that was read
+
+frame_is : (wire : WireMeaning) (t : Table) (bytes : List ℕ) (reading : Result Reading FrameWhy) → t.closed ≡ None → wire.reading_of bytes ≡ reading → apply_frame wire t bytes ≡ Ok (received wire t bytes reading)
+frame_is wire t bytes reading unclosed reads =
+    ap (λ o. when_open frame_refusals.Closed o (Ok (received wire t bytes (wire.reading_of bytes)))) unclosed ∙ ap (λ r. Ok (received wire t bytes r)) reads
+
+pub read_moves : (wire : WireMeaning) (journal : List Entry) (k m : KeptTable) (t : Table) (bytes : List ℕ) (reference : ℕ) (reading : Reading) (answer : FrameAnswer) → Stands journal k t → k.closed ≡ None → wire.reading_of bytes ≡ Ok reading → reference ≡ wire.reference_of bytes → Arrives wire journal m t reference reading answer → (let n : KeptTable = record m { frames = m.frames + 1 } in MovesOrNoMemory frame_refusals.NoMemory journal n t (apply_frame wire t bytes) (Ok answer))
+read_moves wire journal k m t bytes reference reading answer stands unclosed reads refers arrives =
+    let n : KeptTable = record m { frames = m.frames + 1 } in
+    let found = awaiting reference t.requests in
+    let p = arrived wire reference reading t found in
+    let is : apply_frame wire t bytes ≡ Ok (counted p.0, p.1) =
+    frame_is wire t bytes (Ok reading) (sym stands.closed ∙ unclosed) reads
+    ∙ ap (λ r. Ok (arrived wire r reading (counted t) (awaiting r t.requests))) (sym refers)
+    ∙ ap Ok (arrived_counted wire reference reading t found) in
+    let next : Stands journal n (counted p.0) = counted_kept_stands journal m p.0 arrives.stands in
+    record {
+      answer = inl (ap Ok arrives.answer_is ∙ sym (ap answer_of is));
+      stands = let P : Table → Type 0 = Stands journal n in subst P (sym (ap (table_or t) is)) next;
+    }
+
+-- ---- a frame that can't be read
+
+pub unread_moves : (wire : WireMeaning) (journal : List Entry) (k m : KeptTable) (t : Table) (bytes : List ℕ) (why : FrameWhy) → Stands journal k t → k.closed ≡ None → wire.reading_of bytes ≡ Err why → m ≡ undecodable_kept why k → MovesOrNoMemory frame_refusals.NoMemory journal m t (apply_frame wire t bytes) (Ok (frame_answers.Undecodable k.frames why))
+unread_moves wire journal k m t bytes why stands unclosed reads is_kept =
+    let counted_k : KeptTable = record k { frames = k.frames + 1 } in
+    let is : apply_frame wire t bytes ≡ Ok (received wire t bytes (Err why)) = frame_is wire t bytes (Err why) (sym stands.closed ∙ unclosed) reads in
+    let shut = closed_stands journal counted_k (counted t) (reasons.Undecodable k.frames why) (counted_kept_stands journal k t stands) in
+    let same : Stands journal m (closed_by (reasons.Undecodable k.frames why) (counted t)) = let P : KeptTable → Type 0 = λ x. Stands journal x (closed_by (reasons.Undecodable k.frames why) (counted t)) in subst P (sym is_kept) shut in
+    record {
+      answer = inl (ap (λ n. Ok (frame_answers.Undecodable n why)) stands.frames ∙ sym (ap answer_of is));
+      stands =
+          let P : Table → Type 0 = Stands journal m in
+          let Q : ℕ → Type 0 = λ n. Stands journal m (closed_by (reasons.Undecodable n why) (counted t)) in
+          subst P (sym (ap (table_or t) is)) (subst Q stands.frames same);
+    }

@@ -1,21 +1,33 @@
 -- Why calls are refused, or a lease is waited for, by what they find.
-use Rattle.std.specs.Prelude.{◌≡◌, ◌≢◌, ◌⊎◌, ℕ, ◌<◌, false, [], Some, None, Err, count_by, length}
-use Rattle.std.specs.List.{find}
+use Rattle.std.specs.Prelude.{◌≡◌, ◌≢◌, ◌<◌, ◌⊎◌, ℕ, true, List, [], length, Some, None, Err, count_by}
+use Rattle.std.specs.List.{find, slice_get}
+use Rattle.lease_core.specs.LeaseTables.{state_of}
+use Rattle.txn_core.specs.RowTables.{is_queued, is_sent, phase_live, phase_of}
+use Rattle.txn_core.specs.declared.phases.Phase.{Phase}
+use Rattle.txn_core.specs.declared.phases.Phase.TheVariants.{Ended}
 use Rattle.node_tree.specs.declared.faults.WriteWhy.{WriteWhy}
 use Rattle.wire_frames.specs.WireMeaning.{WireMeaning}
 use Rattle.wire_frames.specs.declared.asks.Ask.{Ask}
 use Rattle.wire_frames.specs.declared.ends.EndKind.{EndKind}
 use Rattle.wire_frames.specs.declared.ends.Outcome.{Outcome}
-use Rattle.conn_core.specs.Steps.{next_reference}
-use Rattle.conn_core.specs.Tables.{Table, is_ended, is_queued, is_row_of, is_sent}
-use Rattle.conn_core.specs.declared.rows.Phase.TheVariants.{Ended}
-use Rattle.conn_core.specs.declared.rows.Row.{Row}
-use Rattle.conn_core.specs.declared.settings.Settings.{Settings}
+use Rattle.wire_frames.specs.declared.ends.Reason.{Reason}
+use Rattle.conn_core.specs.Entries.{closing_reason}
+use Rattle.conn_core.specs.Steps.{reference_to_try}
+use Rattle.conn_core.specs.Tables.{Table}
+use Rattle.conn_core.specs.declared.entries.Entry.{Entry}
+
+-- an entry of the journal closes with this reason
+abbrev pub ClosesWith : List Entry → Reason → Type 0
+ClosesWith journal reason = (k : ℕ) × (e : Entry) × (slice_get journal k ≡ Some e) × (closing_reason e ≡ Some reason)
+
+-- no entry of the journal closes
+abbrev pub NoneCloses : List Entry → Type 0
+NoneCloses journal = (k : ℕ) (e : Entry) → slice_get journal k ≡ Some e → closing_reason e ≡ None
 
 -- the wire has no frame for the ask under the reference that is next, 1 where none is free, for this reason at this part of the
 -- ask's tree
 abbrev pub IsUnwritable : WireMeaning → Table → Ask → ℕ → WriteWhy → Type 0
-IsUnwritable wire t ask entry why = wire.frame_of ask (next_reference t.free) ≡ Err (record { entry = entry; why = why })
+IsUnwritable wire t ask entry why = wire.frame_of ask (reference_to_try t) ≡ Err (record { entry = entry; why = why })
 
 -- the wire says this size of the ask and this limit of its frames, and the size is above the limit
 pub record IsTooLarge (wire : WireMeaning) (ask : Ask) (size limit : ℕ) : Type 0 where
@@ -24,27 +36,29 @@ pub record IsTooLarge (wire : WireMeaning) (ask : Ask) (size limit : ℕ) : Type
   pub above : limit < size
 
 -- as many leases as may be are held, or others wait already
-abbrev pub MustWait : Settings → Table → Type 0
-MustWait s t = (length t.held ≡ s.share) ⊎ (t.waiting ≢ [])
+abbrev pub MustWait : Table → Type 0
+MustWait t = (length t.leases.held ≡ t.leases.share) ⊎ (t.leases.waiting ≢ [])
+
+-- the actor neither holds nor waits for a lease with the number
+abbrev pub HasNoLease : Table → ℕ → ℕ → Type 0
+HasNoLease t actor number = state_of t.leases actor number ≡ None
 
 -- no row is queued, or as many rows as the window has are sent and live
-abbrev pub CannotSend : Settings → Table → Type 0
-CannotSend s t = (find is_queued t.rows ≡ None) ⊎ (count_by is_sent t.rows ≡ s.window)
+abbrev pub CannotSend : Table → Type 0
+CannotSend t = (find is_queued t.requests.rows ≡ None) ⊎ (count_by is_sent t.requests.rows ≡ t.requests.window)
 
 -- no row of the actor has the id
 abbrev pub HasNoRow : Table → ℕ → ℕ → Type 0
-HasNoRow t actor id = find (is_row_of actor id) t.rows ≡ None
+HasNoRow t actor id = phase_of actor id t.requests ≡ None
 
 -- the actor's row with the id is live
 pub record HasLiveRow (t : Table) (actor id : ℕ) : Type 0 where
-  pub row : Row
-  pub found : find (is_row_of actor id) t.rows ≡ Some row
-  pub live : is_ended row ≡ false
+  pub phase : Phase Outcome
+  pub found : phase_of actor id t.requests ≡ Some phase
+  pub live : phase_live phase ≡ true
 
 -- the actor's row with the id has ended, with an outcome of this kind
 pub record HasEndedRow (t : Table) (actor id : ℕ) (kind : EndKind) : Type 0 where
-  pub row : Row
   pub outcome : Outcome
-  pub found : find (is_row_of actor id) t.rows ≡ Some row
-  pub ended : row.phase ≡ Ended outcome
+  pub ended : phase_of actor id t.requests ≡ Some (Ended outcome)
   pub kind_is : outcome.kind ≡ kind

@@ -6,10 +6,11 @@ use Rattle.wire_frames.specs.declared.ends.EndKind.{EndKind}
 use Rattle.wire_frames.specs.declared.ends.EndKind.TheVariants as kinds
 use Rattle.wire_frames.specs.declared.ends.Outcome.{Outcome}
 use Rattle.wire_frames.specs.declared.ends.Reason.{Reason}
+use Rattle.lease_core.specs.LeaseTables.{deadline_of}
 use Rattle.conn_core.specs.Entries.{clock_of, closes, closing_reason}
-use Rattle.conn_core.specs.LeaseLists.{held_after}
+use Rattle.conn_core.specs.LeasePlaces.{held_after}
 use Rattle.conn_core.specs.Places.{Stands, Submitted}
-use Rattle.conn_core.specs.Tables.{Connection, deadline_of}
+use Rattle.conn_core.specs.Tables.{Connection}
 use Rattle.conn_core.specs.declared.entries.Answer.{Answer}
 use Rattle.conn_core.specs.declared.entries.Answer.TheVariants as answers
 use Rattle.conn_core.specs.declared.entries.Entry.{Entry}

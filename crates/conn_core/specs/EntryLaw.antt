@@ -1,19 +1,15 @@
 -- What each entry of a legal journal says by the entries before it.
-use Rattle.std.specs.Prelude.{◌≡◌, ℕ, ◌+◌, true, List, length, take, Some, Ok, Err}
+use Rattle.std.specs.Prelude.{◌≡◌, ℕ, ◌+◌, true, List, length, take, Some, Err}
 use Rattle.std.specs.List.{list_any, slice_get}
-use Rattle.node_tree.specs.declared.readings.Reading.{Reading}
+use Rattle.lease_core.specs.LeaseTables.{is_lease_of}
 use Rattle.wire_frames.specs.declared.asks.Ask.{Ask}
-use Rattle.wire_frames.specs.declared.ends.EndKind.{EndKind}
 use Rattle.wire_frames.specs.declared.ends.FrameWhy.{FrameWhy}
-use Rattle.wire_frames.specs.declared.ends.Outcome.{Outcome}
 use Rattle.conn_core.specs.Entries.{asks_in, frames_in, requests_in}
 use Rattle.conn_core.specs.Journals.{table_of}
-use Rattle.conn_core.specs.HandedOut.{IsCollected, IsSending}
-use Rattle.conn_core.specs.LeaseLists.{held_after, leases_from, no_leases}
-use Rattle.conn_core.specs.Places.{FrameComes, SentAt, Stands, Submitted}
+use Rattle.conn_core.specs.LeasePlaces.{held_after, leases_of}
+use Rattle.conn_core.specs.Places.{FrameComes, Stands}
 use Rattle.conn_core.specs.Steps.{step}
-use Rattle.conn_core.specs.Tables.{Connection, is_lease_of}
-use Rattle.conn_core.specs.declared.answers.Sending.{Sending}
+use Rattle.conn_core.specs.Tables.{Connection}
 use Rattle.conn_core.specs.declared.entries.Answer.{Answer}
 use Rattle.conn_core.specs.declared.entries.Answer.TheVariants as answers
 use Rattle.conn_core.specs.declared.entries.Entry.{Entry}
@@ -23,20 +19,6 @@ use Rattle.conn_core.specs.declared.entries.Event.TheVariants as events
 abbrev pub AreSteps : Connection → List Entry → Type 0
 AreSteps c journal = (k : ℕ) (e : Entry) → slice_get journal k ≡ Some e
     → step c (table_of c (take k journal)) e.actor e.event ≡ Some (table_of c (take (k + 1) journal), e.answer)
-
--- the actor handed in the request with the id
-abbrev pub HandedIn : List Entry → ℕ → ℕ → Type 0
-HandedIn journal actor id = (r : Submitted journal id) × (r.actor ≡ actor)
-
--- a request was sent, and the frame has its reference, and its reading fits the ask with this kind
-pub record IsReplyTo (c : Connection) (journal : List Entry) (id : ℕ) (bytes : List ℕ) (kind : EndKind) : Type 0 where
-  pub request : Submitted journal id
-  pub sent : ℕ
-  pub sent_at : SentAt journal id sent
-  pub refers : c.wire.reference_of bytes ≡ request.reference
-  pub reading : Reading
-  pub reads : c.wire.reading_of bytes ≡ Ok reading
-  pub fits : kind ≡ (c.wire.fit request.ask reading).kind
 
 pub record EntryLaw (c : Connection) (journal : List Entry) : Type 0 where
   pub steps : AreSteps c journal
@@ -57,28 +39,11 @@ pub record EntryLaw (c : Connection) (journal : List Entry) : Type 0 where
   -- A lease that is waited for has as many before it as its place says.
   pub waiting_place : (k actor now lease place : ℕ)
       → Stands journal k actor (events.AskLease now) (answers.Waiting lease place)
-      → place ≡ length (leases_from c.settings no_leases (take k journal)).waiting
-  -- What is sent or collected is a request of the journal.
-  pub sent : (k actor id : ℕ)
-      → Stands journal k actor events.TakeSend (answers.Sent id)
-      → (sending : Sending) × (sending.id ≡ id) × IsSending c (take k journal) sending
-  pub collected : (k actor id : ℕ) (kind : EndKind)
-      → Stands journal k actor (events.Collect id) (answers.Collected kind)
-      → (outcome : Outcome) × (kind ≡ outcome.kind) × IsCollected c (take k journal) actor id outcome
-  -- A request is handed in under a lease that its actor holds, and only its actor cancels or collects it.
+      → place ≡ length (leases_of c.settings (take k journal)).waiting
+  -- A request is handed in under a lease that its actor holds.
   pub held : (k actor lease : ℕ) (ask : Ask) (timeout now : ℕ) (answer : Answer)
       → Stands journal k actor (events.Submit lease ask timeout now) answer
       → list_any (is_lease_of actor lease) (held_after c.settings (take k journal)) ≡ true
-  pub own_cancelled : (k actor id : ℕ) (answer : Answer)
-      → Stands journal k actor (events.Cancel id) answer
-      → HandedIn (take k journal) actor id
-  pub own_collected : (k actor id : ℕ) (answer : Answer)
-      → Stands journal k actor (events.Collect id) answer
-      → HandedIn (take k journal) actor id
-  -- A frame ends a request only after its sending, with its reference, and as the frame's reading fits its ask.
-  pub replies : (k actor : ℕ) (bytes : List ℕ) (id : ℕ) (kind : EndKind)
-      → Stands journal k actor (events.Frame bytes) (answers.Ended id kind)
-      → IsReplyTo c (take k journal) id bytes kind
   -- A late or stray frame can be read, with the reference that is told, and an undecodable one can't, for the reason that is told.
   pub late : (k actor : ℕ) (bytes : List ℕ) (reference : ℕ)
       → Stands journal k actor (events.Frame bytes) (answers.Late reference)

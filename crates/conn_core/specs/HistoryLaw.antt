@@ -123,12 +123,12 @@ pub record HistoryLaw (c : Connection) (journal : List Entry) : Type 0 where
       → (id reference : ℕ) × (frame : List ℕ) × (answer ≡ answers.Accepted id reference frame)
       × IsFree c (take k journal) reference
   pub free_are_free : (reference : ℕ)
-      → (0 < occurrences reference (table_of c journal).free) ↔ IsFree c journal reference
-  pub free_once : (reference : ℕ) → occurrences reference (table_of c journal).free ≤ 1
+      → (0 < occurrences reference (table_of c journal).requests.free) ↔ IsFree c journal reference
+  pub free_once : (reference : ℕ) → occurrences reference (table_of c journal).requests.free ≤ 1
   pub others_taken : (reference : ℕ)
       → 1 ≤ reference
       → reference ≤ c.settings.references
-      → occurrences reference (table_of c journal).free ≡ 0
+      → occurrences reference (table_of c journal).requests.free ≡ 0
       → Live c journal reference ⊎ Awaited c journal reference
   -- At most one entry closes, and after it only collections stand.
   pub collects_after_close : (j k : ℕ) (closing e : Entry)

@@ -1,20 +1,21 @@
 -- What the rows of a legal journal's table are: requests that the journal accepted, and what became of them.
-use Rattle.std.specs.Prelude.{◌≡◌, ◌⊎◌, ℕ, ◌<◌, ◌≤◌, ◌==◌, true, false, List, [], Ok, All, AllPairs}
+use Rattle.std.specs.Prelude.{◌≡◌, ◌⊎◌, ℕ, ◌<◌, ◌≤◌, true, false, List, [], ◌∷◌, Some, Ok}
 use Rattle.std.specs.List.{list_any}
 use Rattle.node_tree.specs.declared.readings.Reading.{Reading}
+use Rattle.lease_core.specs.LeaseTables.{has_number}
+use Rattle.txn_core.specs.RowTables.{IsRising, Row, ids_of, is_live}
+use Rattle.txn_core.specs.declared.phases.Phase.{Phase}
+use Rattle.txn_core.specs.declared.phases.Phase.TheVariants.{Queued, Sent, Ended}
 use Rattle.wire_frames.specs.declared.ends.EndKind.{EndKind}
 use Rattle.wire_frames.specs.declared.ends.EndKind.TheVariants as kinds
 use Rattle.wire_frames.specs.declared.ends.Outcome.{Outcome}
+use Rattle.wire_frames.specs.declared.ends.Reason.{Reason}
 use Rattle.conn_core.specs.Ends.{EndsUnanswered, request_deadline}
 use Rattle.conn_core.specs.Places.{SentAt, Stands, Submitted}
-use Rattle.conn_core.specs.Tables.{Connection, Table, is_ended, is_open}
-use Rattle.conn_core.specs.declared.entries.Answer.{Answer}
+use Rattle.conn_core.specs.Tables.{Connection, Handed, Table}
 use Rattle.conn_core.specs.declared.entries.Answer.TheVariants as answers
 use Rattle.conn_core.specs.declared.entries.Entry.{Entry}
 use Rattle.conn_core.specs.declared.entries.Event.TheVariants as events
-use Rattle.conn_core.specs.declared.rows.Phase.{Phase}
-use Rattle.conn_core.specs.declared.rows.Phase.TheVariants.{Queued, Sent, Ended}
-use Rattle.conn_core.specs.declared.rows.Row.{Row}
 
 -- a reply ended the request: a frame with its reference came after its sending, and the outcome is what the wire makes of the
 -- request's ask by the frame's reading
@@ -32,8 +33,7 @@ pub record IsFitted (c : Connection) (journal : List Entry) (id : ℕ) (r : Subm
   pub after : sent < place
 
 -- No reply ended the request: at some place behind its own stands what ends a request without one, in this way, and only its
--- actor cancels it. That it is the first such place isn't said yet. In a legal journal the request was cancelled or lost, since so
--- far no step ticks or takes a lease.
+-- actor cancels it. That it is the first such place isn't said yet.
 pub record IsUnanswered (c : Connection) (journal : List Entry) (id : ℕ) (r : Submitted journal id) (kind : EndKind) : Type 0 where
   pub place : ℕ
   pub behind : r.place < place
@@ -48,18 +48,19 @@ IsBare {journal} {id} c r outcome = IsUnanswered c journal id r outcome.kind × 
 abbrev pub IsOutcomeOf : {journal : List Entry} {id : ℕ} → Connection → Submitted journal id → Outcome → Type 0
 IsOutcomeOf {journal} {id} c r outcome = IsFitted c journal id r outcome ⊎ IsBare c r outcome
 
--- what a row's phase says of its request: queued, it has the request's frame; sent, it was sent; ended, it has its outcome
-abbrev pub IsPhaseOf : {journal : List Entry} {id : ℕ} → Connection → Submitted journal id → Phase → Type 0
-IsPhaseOf c r (Queued frame) = frame ≡ r.frame
+-- what a row's phase says of its request: sent, it was sent; ended, it has its outcome
+abbrev pub IsPhaseOf : {journal : List Entry} {id : ℕ} → Connection → Submitted journal id → Phase Outcome → Type 0
+IsPhaseOf c r Queued = Unit {0}
 IsPhaseOf {journal} {id} c r Sent = (k : ℕ) × SentAt journal id k
 IsPhaseOf c r (Ended outcome) = IsOutcomeOf c r outcome
 
-pub record IsRowOf (c : Connection) (journal : List Entry) (row : Row) : Type 0 where
+pub record IsRowOf (c : Connection) (journal : List Entry) (row : Row Handed Outcome) : Type 0 where
   -- The journal accepted it, as the row says.
   pub request : Submitted journal row.id
-  pub actor : request.actor ≡ row.actor
+  pub actor : request.actor ≡ row.owner
   pub lease : request.lease ≡ row.lease
-  pub ask : request.ask ≡ row.ask
+  pub ask : request.ask ≡ row.what.ask
+  pub frame : request.frame ≡ row.what.frame
   pub reference : request.reference ≡ row.reference
   pub deadline : row.deadline ≡ request_deadline request
   -- Its frame is that of its ask under its reference, and the ask's size is within the wire's limit.
@@ -68,24 +69,16 @@ pub record IsRowOf (c : Connection) (journal : List Entry) (row : Row) : Type 0 
   -- What became of it is what the row's phase says.
   pub phase : IsPhaseOf c request row.phase
 
--- in a closed table each row has ended
-abbrev pub AreEndedIfClosed : Table → Type 0
-AreEndedIfClosed t = is_open t ≡ false → All (λ row. is_ended row ≡ true) t.rows
-
--- some row has the id
-abbrev pub HasRow : Table → ℕ → Type 0
-HasRow t id = list_any (λ row. row.id == id) t.rows ≡ true
-
--- the request with the id was collected
-abbrev pub WasCollected : List Entry → ℕ → Type 0
-WasCollected journal id = (k : ℕ) × (actor : ℕ) × (answer : Answer) × Stands journal k actor (events.Collect id) answer
+-- each of the rows
+abbrev pub EachRow : (Row Handed Outcome → Type 0) → List (Row Handed Outcome) → Type 0
+EachRow P [] = Unit {0}
+EachRow P (row ∷ rows) = P row × EachRow P rows
 
 pub record RowLaw (c : Connection) (journal : List Entry) (t : Table) : Type 0 where
-  -- Each row is a request that the journal accepted. Each such request has a row until it is collected, and none from then on.
-  pub requests : All (IsRowOf c journal) t.rows
-  pub rows : (id : ℕ) → Submitted journal id → HasRow t id ⊎ WasCollected journal id
-  pub gone : (id : ℕ) → WasCollected journal id → ¬ HasRow t id
+  -- Each row is a request that the journal accepted, with what became of it.
+  pub requests : EachRow (IsRowOf c journal) t.requests.rows
   -- They stand by rising id.
-  pub rising : AllPairs (λ row later. row.id < later.id) t.rows
-  -- Once the table is closed each row has ended.
-  pub ended : AreEndedIfClosed t
+  pub rising : IsRising 0 t.requests.drawn (ids_of t.requests.rows)
+  -- The lease of a live row is held. So once the table is closed each row has ended.
+  pub leased : EachRow (λ row. is_live row ≡ true → list_any (has_number row.lease) t.leases.held ≡ true) t.requests.rows
+  pub ended : (reason : Reason) → t.closed ≡ Some reason → EachRow (λ row. is_live row ≡ false) t.requests.rows

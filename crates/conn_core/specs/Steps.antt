@@ -1,16 +1,27 @@
 -- What each event does to a table, or why it is refused. The tests stand in the order in which they are made.
-use Rattle.std.specs.Prelude.{◌≡◌, ◌⊎◌, ℕ, ◌+◌, Bool, true, false, ◌&&◌, ◌==◌, nat_lt, if◌then◌else◌, List, [], ◌∷◌, ◌++◌, length, map, Option, Some, None, Result, Ok, Err, count_by}
-use Rattle.std.specs.List.{find}
+use Rattle.std.specs.Prelude.{ℕ, ◌+◌, ◌-◌, Bool, ◌&&◌, ◌==◌, nat_lt, is_some, if◌then◌else◌, List, [], ◌∷◌, length, unwrap_or, Option, Some, None, Result, Ok, Err}
+use Rattle.lease_core.specs.LeaseSteps.{asked, asked_answer, cleared, dropped, due_dropped, granted_all}
+use Rattle.lease_core.specs.LeaseTables.{deadline_of, due_numbers, state_of, waiters_limit}
+use Rattle.lease_core.specs.declared.answers.LeaseAnswer.{LeaseAnswer}
+use Rattle.lease_core.specs.declared.answers.LeaseAnswer.TheVariants as lease_answers
+use Rattle.txn_core.specs.RowSteps.{Draft, added, awaiting, ended_all, replied, sent_next, settled}
+use Rattle.txn_core.specs.RowSteps as rows
+use Rattle.txn_core.specs.RowTables.{Row, any_row, count_where, has_id, has_lease, is_due, is_full, is_quarantined, next_reference, phase_of}
+use Rattle.txn_core.specs.declared.phases.AddRefusal.{AddRefusal}
+use Rattle.txn_core.specs.declared.phases.AddRefusal.TheVariants as add_refusals
+use Rattle.txn_core.specs.declared.phases.Phase.{Phase}
+use Rattle.txn_core.specs.declared.phases.Phase.TheVariants.{Queued, Sent, Ended}
+use Rattle.txn_core.specs.declared.phases.TakeRefusal.{TakeRefusal}
+use Rattle.node_tree.specs.declared.readings.Reading.{Reading}
 use Rattle.wire_frames.specs.WireMeaning.{WireMeaning, Refused}
 use Rattle.wire_frames.specs.declared.asks.Ask.{Ask}
+use Rattle.wire_frames.specs.declared.ends.EndKind.{EndKind}
 use Rattle.wire_frames.specs.declared.ends.EndKind.TheVariants as kinds
 use Rattle.wire_frames.specs.declared.ends.FrameWhy.{FrameWhy}
 use Rattle.wire_frames.specs.declared.ends.Outcome.{Outcome}
 use Rattle.wire_frames.specs.declared.ends.Reason.{Reason}
 use Rattle.wire_frames.specs.declared.ends.Reason.TheVariants as reasons
-use Rattle.node_tree.specs.declared.readings.Reading.{Reading}
-use Rattle.conn_core.specs.Finds.{change_first, remove_first}
-use Rattle.conn_core.specs.Tables.{Connection, Table, at_moment, deadline_of, ended_row, holds, is_queued, is_reference, is_row_of, is_sent, is_sent_with, lost_row, references_of, rows_limit, sent_row, waiters_limit}
+use Rattle.conn_core.specs.Tables.{Connection, Handed, Requests, Table, at_moment, holds}
 use Rattle.conn_core.specs.declared.answers.Accepted.{Accepted}
 use Rattle.conn_core.specs.declared.answers.AskRefusal.{AskRefusal}
 use Rattle.conn_core.specs.declared.answers.AskRefusal.TheVariants as ask_refusals
@@ -20,50 +31,72 @@ use Rattle.conn_core.specs.declared.answers.FrameAnswer.{FrameAnswer}
 use Rattle.conn_core.specs.declared.answers.FrameAnswer.TheVariants as frame_answers
 use Rattle.conn_core.specs.declared.answers.FrameRefusal.{FrameRefusal}
 use Rattle.conn_core.specs.declared.answers.FrameRefusal.TheVariants as frame_refusals
-use Rattle.conn_core.specs.declared.answers.LeaseAnswer.{LeaseAnswer}
-use Rattle.conn_core.specs.declared.answers.LeaseAnswer.TheVariants as lease_answers
+use Rattle.conn_core.specs.declared.answers.LeaseRefusal.{LeaseRefusal}
+use Rattle.conn_core.specs.declared.answers.LeaseRefusal.TheVariants as lease_refusals
 use Rattle.conn_core.specs.declared.answers.SendRefusal.{SendRefusal}
 use Rattle.conn_core.specs.declared.answers.SendRefusal.TheVariants as send_refusals
 use Rattle.conn_core.specs.declared.answers.Sending.{Sending}
 use Rattle.conn_core.specs.declared.answers.SubmitRefusal.{SubmitRefusal}
 use Rattle.conn_core.specs.declared.answers.SubmitRefusal.TheVariants as submit_refusals
-use Rattle.conn_core.specs.declared.answers.TakeRefusal.{TakeRefusal}
-use Rattle.conn_core.specs.declared.answers.TakeRefusal.TheVariants as take_refusals
+use Rattle.conn_core.specs.declared.answers.Ticked.{Ticked}
 use Rattle.conn_core.specs.declared.entries.Answer.{Answer}
 use Rattle.conn_core.specs.declared.entries.Answer.TheVariants as answers
 use Rattle.conn_core.specs.declared.entries.Event.{Event}
 use Rattle.conn_core.specs.declared.entries.Event.TheVariants.{AskLease, Release, Submit, TakeSend, Frame, Cancel, Collect, Tick, Close, Shutdown}
-use Rattle.conn_core.specs.declared.rows.Lease.{Lease}
-use Rattle.conn_core.specs.declared.rows.Phase.{Phase}
-use Rattle.conn_core.specs.declared.rows.Phase.TheVariants.{Queued, Sent, Ended}
-use Rattle.conn_core.specs.declared.rows.Row.{Row}
-use Rattle.conn_core.specs.declared.settings.Settings.{Settings}
+
+-- ---- parts of steps
 
 -- first of all, a closed table answers why it was closed
 abbrev pub when_open : {A E : Type 0} → (Reason → E) → Option Reason → Result A E → Result A E
 when_open refusal None next = next
 when_open refusal (Some reason) next = Err (refusal reason)
 
--- AskLease: at most `waiters_limit` wait. The lease is held where fewer than `share` are and none waits, else it is the last waiter
-abbrev pub asked_if : Bool → Settings → Table → ℕ → Table × LeaseAnswer
-asked_if true s t actor =
-    let number = t.leases_drawn + 1 in
-    let lease : Lease = record { number = number; actor = actor; deadline = deadline_of t.clock s.lease_ms } in
-    (record t { held = t.held ++ lease ∷ []; leases_drawn = number }, lease_answers.Granted number)
-asked_if false s t actor =
-    let number = t.leases_drawn + 1 in
-    let lease : Lease = record { number = number; actor = actor; deadline = deadline_of t.clock s.wait_ms } in
-    (record t { waiting = t.waiting ++ lease ∷ []; leases_drawn = number }, lease_answers.Waiting number (length t.waiting))
+-- an outcome that no reply brings
+abbrev pub bare : EndKind → Outcome
+bare kind = record { kind = kind; values = [] }
 
-abbrev pub asked : Settings → Table → ℕ → Table × LeaseAnswer
-asked s t actor = asked_if (nat_lt (length t.held) s.share && (length t.waiting == 0)) s t actor
+-- the live requests that pass end without a reply, in this way
+abbrev pub end_all : (Row Handed Outcome → Bool) → EndKind → Requests → Requests
+end_all p kind requests = ended_all p (bare kind) requests
 
-abbrev pub ask_lease : Settings → Table → ℕ → ℕ → Result (Table × LeaseAnswer) AskRefusal
-ask_lease s t actor now =
+-- a lease goes, and with it its live requests; waiters are granted while there is room
+abbrev pub released : ℕ → Table → Table
+released number t = record t {
+  requests = end_all (has_lease number) kinds.LeaseGone t.requests;
+  leases = granted_all (dropped t.leases number) t.clock;
+}
+
+-- the table is closed: every live request is lost with the reason, leases and waiters are dropped
+abbrev pub closed_by : Reason → Table → Table
+closed_by reason t = record t {
+  requests = end_all any_row (kinds.Lost reason) t.requests;
+  leases = cleared t.leases;
+  closed = Some reason;
+}
+
+-- ---- AskLease: at most so many wait
+
+abbrev pub with_lease : ℕ → Table → Table
+with_lease actor t = record t { leases = asked t.leases actor t.clock }
+
+abbrev pub ask_lease : Table → (actor now : ℕ) → Result (Table × LeaseAnswer) AskRefusal
+ask_lease t actor now =
     when_open ask_refusals.Closed t.closed (
-    if nat_lt (length t.waiting) waiters_limit then Ok (asked s (at_moment now t) actor) else Err ask_refusals.QueueFull)
+    if nat_lt (length t.leases.waiting) waiters_limit
+    then Ok (with_lease actor (at_moment now t), asked_answer t.leases)
+    else Err ask_refusals.QueueFull)
 
--- Submit: what a caller hands in
+-- ---- Release: of a lease that the actor holds or waits for
+
+abbrev pub release : Table → (actor number now : ℕ) → Result (Table × Unit {0}) LeaseRefusal
+release t actor number now =
+    when_open lease_refusals.Closed t.closed (
+    if is_some (state_of t.leases actor number)
+    then Ok (released number (at_moment now t), tt)
+    else Err lease_refusals.NoLease)
+
+-- ---- Submit: what a caller hands in
+
 pub record Request : Type 0 where
   pub actor : ℕ
   pub lease : ℕ
@@ -77,180 +110,188 @@ pub record Started : Type 0 where
   pub reference : ℕ
   pub frame : List ℕ
 
-abbrev pub started : Table → Request → List ℕ → ℕ → List ℕ → Table × Started
-started t q frame reference rest =
-    let at = at_moment q.moment t in
-    let id = at.requests_drawn + 1 in
-    let row : Row = record {
-      id = id;
-      actor = q.actor;
-      lease = q.lease;
-      ask = q.ask;
-      reference = reference;
-      deadline = deadline_of at.clock q.timeout;
-      phase = Queued frame;
-    } in
-    (record at { rows = at.rows ++ row ∷ []; free = rest; requests_drawn = id }, record { id = id; reference = reference; frame = frame })
+abbrev pub draft_of : Request → (clock : ℕ) → List ℕ → Draft Handed
+draft_of q clock frame = record {
+  owner = q.actor;
+  lease = q.lease;
+  deadline = deadline_of clock q.timeout;
+  what = record { ask = q.ask; frame = frame };
+}
 
--- the reference that a request would go out under, 1 where none is free
-abbrev pub next_reference : List ℕ → ℕ
-next_reference [] = 1
-next_reference (reference ∷ rest) = reference
+abbrev pub add_refusal : AddRefusal → SubmitRefusal
+add_refusal add_refusals.Full = submit_refusals.TableFull
+add_refusal add_refusals.NoReference = submit_refusals.NoReference
+add_refusal add_refusals.NoMemory = submit_refusals.NoMemory
 
--- the first free reference is drawn
-abbrev pub with_reference : Table → Request → List ℕ → List ℕ → Result (Table × Started) SubmitRefusal
-with_reference t q frame [] = Err submit_refusals.NoReference
-with_reference t q frame (reference ∷ rest) = Ok (started t q frame reference rest)
+abbrev pub started_as : Table → List ℕ → Result (Requests × (ℕ × ℕ)) AddRefusal → Result (Table × Started) SubmitRefusal
+started_as t frame (Ok p) = Ok (record t { requests = p.0 }, record { id = p.1.0; reference = p.1.1; frame = frame })
+started_as t frame (Err refusal) = Err (add_refusal refusal)
+
+-- a row is queued, where there is a free reference for it
+abbrev pub started : Request → List ℕ → Table → Result (Table × Started) SubmitRefusal
+started q frame t = started_as t frame (added (draft_of q t.clock frame) t.requests)
 
 -- the frame that carries the ask, where it can be written and the ask's size is within the limit; only then is the reference drawn
 abbrev pub with_frame : WireMeaning → Table → Request → Result (List ℕ) Refused → Result (Table × Started) SubmitRefusal
 with_frame wire t q (Err refused) = Err (submit_refusals.Unwritable refused.entry refused.why)
-with_frame wire t q (Ok frame) = if nat_lt wire.limit (wire.size q.ask) then Err (submit_refusals.TooLarge (wire.size q.ask) wire.limit) else with_reference t q frame t.free
+with_frame wire t q (Ok frame) =
+    if nat_lt wire.limit (wire.size q.ask)
+    then Err (submit_refusals.TooLarge (wire.size q.ask) wire.limit)
+    else started q frame (at_moment q.moment t)
+
+-- the reference that a request would go out under, 1 where none is free
+abbrev pub reference_to_try : Table → ℕ
+reference_to_try t = unwrap_or (next_reference t.requests) 1
 
 abbrev pub submit : WireMeaning → Table → Request → Result (Table × Started) SubmitRefusal
 submit wire t q =
     when_open submit_refusals.Closed t.closed (
     if holds q.actor q.lease t
-    then (if nat_lt (length t.rows) rows_limit then with_frame wire t q (wire.frame_of q.ask (next_reference t.free)) else Err submit_refusals.TableFull)
+    then (if is_full t.requests then Err submit_refusals.TableFull else with_frame wire t q (wire.frame_of q.ask (reference_to_try t)))
     else Err submit_refusals.NoLease)
 
--- TakeSend: the queued row with the least id is sent, unless `window` rows are sent and live
-abbrev pub with_queued_frame : Table → Row → Phase → Result (Table × Sending) SendRefusal
-with_queued_frame t row (Queued frame) = Ok (record t { rows = change_first is_queued sent_row t.rows }, record { id = row.id; reference = row.reference; frame = frame })
-with_queued_frame t row Sent = Err send_refusals.Nothing
-with_queued_frame t row (Ended outcome) = Err send_refusals.Nothing
+-- ---- TakeSend: the queued request with the least id is sent, unless the window is full
 
-abbrev pub with_queued : Table → Option Row → Result (Table × Sending) SendRefusal
-with_queued t None = Err send_refusals.Nothing
-with_queued t (Some row) = with_queued_frame t row row.phase
+abbrev pub sending_as : Table → Option (Requests × Row Handed Outcome) → Result (Table × Sending) SendRefusal
+sending_as t None = Err send_refusals.Nothing
+sending_as t (Some p) =
+    Ok (record t { requests = p.0 }, record { id = p.1.id; reference = p.1.reference; frame = p.1.what.frame })
 
-abbrev pub take_send : Settings → Table → Result (Table × Sending) SendRefusal
-take_send s t =
-    when_open send_refusals.Closed t.closed (if nat_lt (count_by is_sent t.rows) s.window then with_queued t (find is_queued t.rows) else Err send_refusals.Nothing)
+abbrev pub take_send : Table → Result (Table × Sending) SendRefusal
+take_send t = when_open send_refusals.Closed t.closed (sending_as t (sent_next t.requests))
 
--- Close: every live row is lost with the reason. References of rows that were sent are put in quarantine, the others are free again
-abbrev pub closed_by : Reason → Table → Table
-closed_by reason t = record t {
-  rows = map (lost_row reason) t.rows;
-  free = t.free ++ references_of is_queued t.rows;
-  quarantined = t.quarantined ++ references_of is_sent t.rows;
-  held = [];
-  waiting = [];
-  closed = Some reason;
-}
+-- ---- Frame: the request that was sent under its reference and hasn't ended ends by the fit; else a quarantined reference is free
+-- again, and the frame is late; else it is stray
 
-abbrev pub close : Table → Reason → Result (Table × Unit {0}) Reason
-close t reason = when_open (λ stands. stands) t.closed (Ok (closed_by reason t, tt))
+abbrev pub without_request : ℕ → Table → Table × FrameAnswer
+without_request reference t =
+    if is_quarantined reference t.requests
+    then (record t { requests = settled reference t.requests }, frame_answers.Late reference)
+    else (t, frame_answers.Stray reference)
 
--- Frame: a row that is sent and live with its reference ends by the fit; else a quarantined reference is free again, at the back
-abbrev pub without_row : Table → ℕ → Option ℕ → Table × FrameAnswer
-without_row t reference (Some r) =
-    (record t { quarantined = remove_first (is_reference reference) t.quarantined; free = t.free ++ reference ∷ [] }, frame_answers.Late reference)
-without_row t reference None = (t, frame_answers.Stray reference)
+abbrev pub ended_by : (id : ℕ) → Outcome → Table → Table × FrameAnswer
+ended_by id outcome t = (record t { requests = replied id outcome t.requests }, frame_answers.Ended id outcome.kind)
 
-abbrev pub ended_answer : Row → Outcome → FrameAnswer
-ended_answer row outcome = frame_answers.Ended row.id outcome.kind
+abbrev pub arrived : WireMeaning → (reference : ℕ) → Reading → Table → Option (Row Handed Outcome) → Table × FrameAnswer
+arrived wire reference reading t None = without_request reference t
+arrived wire reference reading t (Some row) = ended_by row.id (wire.fit row.what.ask reading) t
 
-abbrev pub arrived : WireMeaning → Table → ℕ → Reading → Option Row → Table × FrameAnswer
-arrived wire t reference reading None = without_row t reference (find (is_reference reference) t.quarantined)
-arrived wire t reference reading (Some row) =
-    let outcome = wire.fit row.ask reading in
-    (record t { rows = change_first (is_sent_with reference) (ended_row outcome) t.rows; free = t.free ++ reference ∷ [] }, ended_answer row outcome)
+-- each frame has a number, from 0
+abbrev pub counted : Table → Table
+counted t = record t { frames = t.frames + 1 }
 
--- a frame that can't be read closes the table, and has a number among all frames that were taken
-abbrev pub refused_frame : Table → FrameWhy → Table × FrameAnswer
-refused_frame t why = (closed_by (reasons.Undecodable t.frames_taken why) (record t { frames_taken = t.frames_taken + 1 }), frame_answers.Undecodable t.frames_taken why)
-
-abbrev pub counted : Table × FrameAnswer → Table × FrameAnswer
-counted p = (record p.0 { frames_taken = p.0.frames_taken + 1 }, p.1)
-
+-- a frame that can't be read closes the table
 abbrev pub received : WireMeaning → Table → List ℕ → Result Reading FrameWhy → Table × FrameAnswer
-received wire t bytes (Err why) = refused_frame t why
+received wire t bytes (Err why) =
+    (closed_by (reasons.Undecodable t.frames why) (counted t), frame_answers.Undecodable t.frames why)
 received wire t bytes (Ok reading) =
     let reference = wire.reference_of bytes in
-    counted (arrived wire t reference reading (find (is_sent_with reference) t.rows))
+    arrived wire reference reading (counted t) (awaiting reference t.requests)
 
 abbrev pub apply_frame : WireMeaning → Table → List ℕ → Result (Table × FrameAnswer) FrameRefusal
 apply_frame wire t bytes = when_open frame_refusals.Closed t.closed (Ok (received wire t bytes (wire.reading_of bytes)))
 
--- Cancel: the row ends; its reference is free again, or in quarantine where its frame was sent
-abbrev pub cancelled : Outcome
-cancelled = record { kind = kinds.Cancelled; values = [] }
+-- ---- Cancel: the actor's live request ends
 
-abbrev pub cancel_row : Table → ℕ → ℕ → Row → Phase → Result (Table × Unit {0}) CancelRefusal
-cancel_row t actor id row (Queued frame) =
-    Ok (record t { rows = change_first (is_row_of actor id) (ended_row cancelled) t.rows; free = t.free ++ row.reference ∷ [] }, tt)
-cancel_row t actor id row Sent =
-    Ok (record t { rows = change_first (is_row_of actor id) (ended_row cancelled) t.rows; quarantined = t.quarantined ++ row.reference ∷ [] }, tt)
-cancel_row t actor id row (Ended outcome) = Err (cancel_refusals.AlreadyEnded outcome.kind)
+abbrev pub cancelled : (id : ℕ) → Table → Table
+cancelled id t = record t { requests = end_all (has_id id) kinds.Cancelled t.requests }
 
-abbrev pub with_cancelled : Table → ℕ → ℕ → Option Row → Result (Table × Unit {0}) CancelRefusal
-with_cancelled t actor id None = Err cancel_refusals.NoRequest
-with_cancelled t actor id (Some row) = cancel_row t actor id row row.phase
+abbrev pub cancel_as : (id : ℕ) → Table → Option (Phase Outcome) → Result (Table × Unit {0}) CancelRefusal
+cancel_as id t None = Err cancel_refusals.NoRequest
+cancel_as id t (Some Queued) = Ok (cancelled id t, tt)
+cancel_as id t (Some Sent) = Ok (cancelled id t, tt)
+cancel_as id t (Some (Ended outcome)) = Err (cancel_refusals.AlreadyEnded outcome.kind)
 
-abbrev pub cancel : Table → ℕ → ℕ → Result (Table × Unit {0}) CancelRefusal
-cancel t actor id = with_cancelled t actor id (find (is_row_of actor id) t.rows)
+abbrev pub cancel : Table → (actor id : ℕ) → Result (Table × Unit {0}) CancelRefusal
+cancel t actor id = cancel_as id t (phase_of actor id t.requests)
 
--- Collect: an ended row is removed and its outcome handed out
-abbrev pub collect_row : Table → ℕ → ℕ → Phase → Result (Table × Outcome) TakeRefusal
-collect_row t actor id (Queued frame) = Err take_refusals.Pending
-collect_row t actor id Sent = Err take_refusals.Pending
-collect_row t actor id (Ended outcome) = Ok (record t { rows = remove_first (is_row_of actor id) t.rows }, outcome)
+-- ---- Collect: the actor's ended request is removed and its outcome handed out
 
-abbrev pub with_collected : Table → ℕ → ℕ → Option Row → Result (Table × Outcome) TakeRefusal
-with_collected t actor id None = Err take_refusals.NoRequest
-with_collected t actor id (Some row) = collect_row t actor id row.phase
+abbrev pub collected_as : Table → Result (Requests × Outcome) TakeRefusal → Result (Table × Outcome) TakeRefusal
+collected_as t (Ok p) = Ok (record t { requests = p.0 }, p.1)
+collected_as t (Err refusal) = Err refusal
 
-abbrev pub collect : Table → ℕ → ℕ → Result (Table × Outcome) TakeRefusal
-collect t actor id = with_collected t actor id (find (is_row_of actor id) t.rows)
+abbrev pub collect : Table → (actor id : ℕ) → Result (Table × Outcome) TakeRefusal
+collect t actor id = collected_as t (rows.taken actor id t.requests)
 
--- what a call answers, and the table after it
-abbrev pub answer_of : {A E : Type 0} → Result (Table × A) E → Result A E
-answer_of (Ok p) = Ok p.1
-answer_of (Err refusal) = Err refusal
+-- ---- Tick: what is due at the moment goes, whatever the clock says
 
-abbrev pub table_or : {A E : Type 0} → Table → Result (Table × A) E → Table
-table_or t (Ok p) = p.0
-table_or t (Err refusal) = t
+-- the live requests of leases, lease after lease
+abbrev pub end_leases : List ℕ → Requests → Requests
+end_leases [] requests = requests
+end_leases (number ∷ numbers) requests = end_leases numbers (end_all (has_lease number) kinds.LeaseGone requests)
 
--- a call answered what it was to, or found no memory
-abbrev pub IsGivenOrNoMemory : {A E : Type 0} → E → Result A E → Result A E → Type 0
-IsGivenOrNoMemory no_memory result wanted = (result ≡ wanted) ⊎ (result ≡ Err no_memory)
+-- Requests that are due end first, and then those of each due lease; due leases and waiters go; then waiters are granted while
+-- there is room.
+abbrev pub ticked : (now : ℕ) → Table → Table
+ticked now t = record t {
+  requests = end_leases (due_numbers now t.leases.held) (end_all (is_due now) kinds.Expired t.requests);
+  leases = granted_all (due_dropped t.leases now) t.clock;
+}
+
+abbrev pub live_count : Table → ℕ
+live_count t = count_where any_row t.requests
+
+-- how many requests ended, and how many leases and waiters were due
+abbrev pub tick_count : (now : ℕ) → Table → Ticked
+tick_count now t = record {
+  rows = live_count t - live_count (ticked now t);
+  leases = length (due_numbers now t.leases.held);
+  waiters = length (due_numbers now t.leases.waiting);
+}
+
+abbrev pub is_nothing : Ticked → Bool
+is_nothing count = (count.rows == 0) && ((count.leases == 0) && (count.waiters == 0))
+
+-- where nothing is due it is no event
+abbrev pub tick : Table → (now : ℕ) → Option (Table × Ticked)
+tick t now =
+    let count = tick_count now t in
+    if is_nothing count then None else Some (ticked now (at_moment now t), count)
+
+-- ---- Close and Shutdown
+
+abbrev pub close : Table → Reason → Result (Table × Unit {0}) Reason
+close t reason = when_open (λ stands. stands) t.closed (Ok (closed_by reason t, tt))
+
+-- ---- all events
 
 -- what a caller is told of a request that was accepted
 abbrev pub accepted_of : {E : Type 0} → Result Started E → Result Accepted E
 accepted_of (Ok s) = Ok (record { id = s.id; reference = s.reference })
 accepted_of (Err refusal) = Err refusal
 
--- How an entry writes the answers.
-abbrev pub asked_answer : LeaseAnswer → Answer
-asked_answer (lease_answers.Granted lease) = answers.Granted lease
-asked_answer (lease_answers.Waiting lease place) = answers.Waiting lease place
+-- how an entry writes the answers
+abbrev pub asked_entry : LeaseAnswer → Answer
+asked_entry (lease_answers.Granted lease) = answers.Granted lease
+asked_entry (lease_answers.Waiting lease place) = answers.Waiting lease place
 
-abbrev pub started_answer : Started → Answer
-started_answer s = answers.Accepted s.id s.reference s.frame
-
-abbrev pub frame_answer : FrameAnswer → Answer
-frame_answer (frame_answers.Ended id kind) = answers.Ended id kind
-frame_answer (frame_answers.Late reference) = answers.Late reference
-frame_answer (frame_answers.Stray reference) = answers.Stray reference
-frame_answer (frame_answers.Undecodable index why) = answers.Undecodable index why
+abbrev pub frame_entry : FrameAnswer → Answer
+frame_entry (frame_answers.Ended id kind) = answers.Ended id kind
+frame_entry (frame_answers.Late reference) = answers.Late reference
+frame_entry (frame_answers.Stray reference) = answers.Stray reference
+frame_entry (frame_answers.Undecodable index why) = answers.Undecodable index why
 
 -- an event that isn't refused gives a table and an answer
 abbrev pub taken : {A E : Type 0} → (A → Answer) → Result (Table × A) E → Option (Table × Answer)
 taken f (Ok p) = Some (p.0, f p.1)
 taken f (Err refusal) = None
 
--- The step of the table: what an event gives, or None where it is refused. Releases and ticks aren't taken yet.
-abbrev pub step : Connection → Table → ℕ → Event → Option (Table × Answer)
-step c t actor (AskLease now) = taken asked_answer (ask_lease c.settings t actor now)
-step c t actor (Release lease now) = None
+abbrev pub taken_some : {A : Type 0} → (A → Answer) → Option (Table × A) → Option (Table × Answer)
+taken_some f (Some p) = Some (p.0, f p.1)
+taken_some f None = None
+
+-- The step of the table: what an event by an actor gives, or None where it is refused.
+abbrev pub step : Connection → Table → (actor : ℕ) → Event → Option (Table × Answer)
+step c t actor (AskLease now) = taken asked_entry (ask_lease t actor now)
+step c t actor (Release lease now) = taken (λ _. answers.Released) (release t actor lease now)
 step c t actor (Submit lease ask timeout now) =
-    taken started_answer (submit c.wire t (record { actor = actor; lease = lease; ask = ask; timeout = timeout; moment = now }))
-step c t actor TakeSend = taken (λ sending. answers.Sent sending.id) (take_send c.settings t)
-step c t actor (Frame bytes) = taken frame_answer (apply_frame c.wire t bytes)
+    taken (λ s. answers.Accepted s.id s.reference s.frame)
+    (submit c.wire t (record { actor = actor; lease = lease; ask = ask; timeout = timeout; moment = now }))
+step c t actor TakeSend = taken (λ sending. answers.Sent sending.id) (take_send t)
+step c t actor (Frame bytes) = taken frame_entry (apply_frame c.wire t bytes)
 step c t actor (Cancel id) = taken (λ _. answers.Cancelled) (cancel t actor id)
 step c t actor (Collect id) = taken (λ outcome. answers.Collected outcome.kind) (collect t actor id)
-step c t actor (Tick now) = None
+step c t actor (Tick now) = taken_some (λ count. answers.Ticked count.rows count.leases count.waiters) (tick t now)
 step c t actor (Close reason) = taken (λ _. answers.Closed) (close t reason)
 step c t actor Shutdown = taken (λ _. answers.Closed) (close t reasons.Asked)

@@ -7,13 +7,6 @@ use node_tree::{ByteList, WriteWhy};
 use std::alloc::AllocError;
 use wire_frames::{EndKind, FrameWhy, Reason};
 
-/// The number of a lease, from 1, that is held at once, or waited for with so many waiters before.
-#[derive(Clone, Copy, Debug, PartialEq, Eq)]
-pub enum LeaseAnswer {
-    Granted { lease: u64 },
-    Waiting { lease: u64, place: u8 },
-}
-
 /// Why no lease was asked.
 #[derive(Clone, Copy, Debug, PartialEq, Eq)]
 pub enum AskRefusal {
@@ -22,6 +15,15 @@ pub enum AskRefusal {
     /// As many as may be wait already, 64.
     QueueFull,
     NoMemory,
+}
+
+/// Why a lease isn't released, or what it is isn't told.
+#[derive(Clone, Copy, Debug, PartialEq, Eq)]
+pub enum LeaseRefusal {
+    /// The connection is closed, for this reason.
+    Closed(Reason),
+    /// The actor neither holds nor waits for a lease with the number.
+    NoLease,
 }
 
 /// A request that was accepted: its id, counted from 1, and the reference under which it goes out.
@@ -96,13 +98,12 @@ pub enum CancelRefusal {
     NoRequest,
 }
 
-/// Why no outcome was handed out.
+/// How many rows ended at a moment, and how many leases and waiters were lost.
 #[derive(Clone, Copy, Debug, PartialEq, Eq)]
-pub enum TakeRefusal {
-    /// The request is live.
-    Pending,
-    /// The actor has no row with the id.
-    NoRequest,
+pub struct Ticked {
+    pub rows: u32,
+    pub leases: u32,
+    pub waiters: u32,
 }
 
 impl From<AllocError> for AskRefusal {

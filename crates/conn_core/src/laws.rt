@@ -1,34 +1,41 @@
-ghost use Rattle.std.specs.Prelude.{ℕ, ◌≡◌, ◌+◌, ◌++◌, List, None, Some, IfOk, length};
+ghost use Rattle.std.specs.Prelude.{◌≡◌, ◌+◌, ◌++◌, ℕ, List, None, Some, IfOk, length};
+ghost use Rattle.txn_core.specs.RowSteps.{answer_of};
 ghost use Rattle.conn_core.specs.Entries.{closing_reason};
 ghost use Rattle.conn_core.specs.EntryLaw.{EntryLaw};
 ghost use Rattle.conn_core.specs.HandedOut.{IsCollected, IsSending};
 ghost use Rattle.conn_core.specs.Journals.{Legal, after_turn, table_of, turn_of};
-ghost use Rattle.conn_core.specs.Steps.{answer_of, collect, step, take_send};
+ghost use Rattle.conn_core.specs.RequestLaw.{RequestLaw};
+ghost use Rattle.conn_core.specs.Steps.{collect, step, take_send};
 ghost use Rattle.conn_core.specs.TableLaw.{TableLaw};
-ghost use Rattle.conn_core.specs.Tables.{Connection, Table};
+ghost use Rattle.conn_core.specs.Tables.{Connection, IsSettings, Table};
 ghost use Rattle.conn_core.specs.declared.entries.Entry.{Entry};
 
-/// The table after a legal journal has the clock, the leases, the close, the counts and the rows that the journal's places tell,
-/// by the settings of its connection. It keeps no more rows, waiters and held leases than it may, and no more rows are sent and
-/// live than the window has.
+/// The table after a legal journal has the clock, the leases, the close and the counts that the journal's places tell, by the
+/// settings of its connection. It keeps no more rows, waiters and held leases than it may, and no more rows are sent and live than
+/// the window has.
 pub fn table_by_places()
     ensures { (c : Connection) (journal : List Entry) → Legal c journal → TableLaw c journal }
 {}
 
-/// Each entry of a legal journal is a step on the table of the entries before it. So numbers are drawn in order; a request is
-/// handed in under a lease that its actor holds, and cancelled or collected by its actor alone; what is sent or collected is
-/// what the journal says; and a frame ends a request only after its sending, with its reference and as its reading fits.
+/// Each entry of a legal journal is a step on the table of the entries before it. So numbers are drawn in order, a request is
+/// handed in under a lease that its actor holds, and a frame is answered as its reading says.
 pub fn entries_by_places()
     ensures { (c : Connection) (journal : List Entry) → Legal c journal → EntryLaw c journal }
 {}
 
+/// What entries of a legal journal say of requests: what is sent or collected is what the journal says of the actor's request, and a
+/// frame ends a request only after its sending, with its reference and as its reading fits. The settings lie in their ranges.
+pub fn requests_by_places()
+    ensures { (c : Connection) (journal : List Entry) → IsSettings c.settings → Legal c journal → RequestLaw c journal }
+{}
+
 /// What a legal journal's table hands out is what the journal says: a sending is a request that it accepted, in the frame of its
-/// ask, and an outcome is that of the actor's request, by a reply that came after its sending, or by a cancellation or a close that
-/// stands behind its acceptance.
+/// ask, and an outcome is that of the actor's request, by a reply that came after its sending, or by what stands behind its
+/// acceptance and ends it without one. The settings lie in their ranges.
 pub fn handed_out_by_places()
-    ensures sent { (c : Connection) (journal : List Entry) → Legal c journal
-        → IfOk (answer_of (take_send c.settings (table_of c journal))) (IsSending c journal) }
-    ensures collected { (c : Connection) (journal : List Entry) (actor id : ℕ) → Legal c journal
+    ensures sent { (c : Connection) (journal : List Entry) → IsSettings c.settings → Legal c journal
+        → IfOk (answer_of (take_send (table_of c journal))) (IsSending c journal) }
+    ensures collected { (c : Connection) (journal : List Entry) (actor id : ℕ) → IsSettings c.settings → Legal c journal
         → IfOk (answer_of (collect (table_of c journal) actor id)) (IsCollected c journal actor id) }
 {}
 

@@ -1,42 +1,78 @@
-ghost use Rattle.std.specs.Prelude.{◌≡◌, ◌<◌, IfOk, IfErr, OnOk, OnErr, IsTrue, Ok, Err, vec_len};
+ghost use Rattle.std.specs.Prelude.{◌≡◌, ◌+◌, ◌-◌, ◌<◌, ◌≤◌, ◌^◌, ℕ, List, Result, None, IfErr, IfOk, IsTrue, OnErr, OnOk, length, vec_len};
+ghost use Rattle.std.specs.List.{list_any};
 ghost use Rattle.std.specs.Vec.{vec_capacity};
-ghost use Rattle.conn_core.specs.Requests.{IsDraftOf, handed_in, prepared, request_of};
-ghost use Rattle.conn_core.specs.Tables.{IsSettings};
-ghost use Rattle.conn_core.specs.Rooms.{HasTurnRoom, IsKept, Stays, TurnsAs, capacities_of, lists_of};
-ghost use Rattle.conn_core.specs.Steps.{IsGivenOrNoMemory, accepted_of, answer_of, next_reference, started_answer};
-ghost use Rattle.conn_core.specs.declared.entries.Event.TheVariants as events;
+ghost use Rattle.lease_core.specs.LeaseTables.{deadline_of, is_lease_of};
+ghost use Rattle.txn_core.specs.RowTables.{IsRowTable};
+ghost use Rattle.wire_frames.specs.WireMeaning.{Refused};
+ghost use Rattle.conn_core.specs.KeptTables.{Stands};
+ghost use Rattle.conn_core.specs.Requests.{IsDraftOf, frame_for, place_answer, request_of};
+ghost use Rattle.conn_core.specs.Steps.{add_refusal, collect, reference_to_try, take_send};
+ghost use Rattle.conn_core.specs.Tables.{Table};
+ghost use Rattle.conn_core.specs.declared.entries.Entry.{Entry};
 
-use crate::answers::{Accepted, SubmitRefusal};
-use crate::drafts::{Draft, FrameCopies, write_frames};
-use crate::entries::{Answer, Entry, Event};
-use crate::kept::{Kept, reserve_turn, write_down};
-use crate::settings::Settings;
-use crate::submitting::{Handed, check_place, peek_reference, start};
-use crate::tables::KeptTable;
-use std::alloc::AllocError;
-use wire_frames::Wire;
+use crate::answers::{Accepted, SendRefusal, Sending, SubmitRefusal};
+use crate::drafts::{Draft, FrameCopies};
+use crate::handed::{HandedIn, hand_out, take_values};
+use crate::table::KeptTable;
+use lease_core::{LeaseState, Leases};
+use node_tree::ByteList;
+use std::alloc::{AllocError, Global};
+use txn_core::{AddRefusal, TakeRefusal};
+use wire_frames::{Ask, Outcome, ValueRows, Wire};
+
+/// What a caller hands in.
+#[derive(Debug, Drop)]
+pub(crate) struct NewRequest {
+    pub actor: u32,
+    pub lease: u64,
+    pub ask: Ask,
+    pub timeout_ms: u32,
+    pub moment: u64,
+}
+
+/// The moment so many milliseconds after another, or the greatest one.
+fn find_deadline(now: u64, milliseconds: u32) -> u64
+    ensures { result ≡ deadline_of now milliseconds }
+{
+    now.saturating_add(u64::from(milliseconds))
+}
+
+fn refuse_add(refusal: AddRefusal) -> SubmitRefusal
+    ensures { result ≡ add_refusal refusal }
+{
+    match refusal {
+        AddRefusal::Full => SubmitRefusal::TableFull,
+        AddRefusal::NoReference => SubmitRefusal::NoReference,
+        AddRefusal::NoMemory => SubmitRefusal::NoMemory,
+    }
+}
+
+/// Whether an actor holds a lease.
+fn holds(leases: &Leases, actor: u32, lease: u64) -> bool
+    ensures { result ≡ list_any (is_lease_of actor lease) leases.now.held }
+{
+    matches!(leases.state(actor, lease), Some(LeaseState::Held))
+}
 
 /// The frames of a request that its caller may hand in, from the draft of its ask.
-fn take_frames<W: Wire>(
+pub(crate) fn take_frames<W: Wire>(
     wire: &W,
-    table: &KeptTable,
-    request: &Handed,
+    ask: &Ask,
     draft: Draft,
 ) -> Result<FrameCopies, SubmitRefusal>
-    requires admitted { IsTrue ((W.meaning wire.now).admits request.now.ask) }
-    requires drafted { IsDraftOf ((W.meaning wire.now).frame_of request.now.ask (next_reference table.now.free.items)) draft }
-    ensures written { IfOk result (λ frames.
-        prepared (W.meaning wire.now) (lists_of table.now) (request_of request.now) ≡ Ok frames.written) }
-    ensures sent { IfOk result (λ frames. frames.sent ≡ frames.written) }
-    ensures err { IfErr result (λ refusal.
-        prepared (W.meaning wire.now) (lists_of table.now) (request_of request.now) ≡ Err refusal) }
+    requires { IsTrue ((W.meaning wire.now).admits ask.now) }
+    ensures written { (wanted : Result (List ℕ) Refused) → IsDraftOf wanted draft
+        → IfOk result (λ frames. frame_for (W.meaning wire.now) ask.now wanted ≡ Ok frames.written) }
+    ensures sent { (wanted : Result (List ℕ) Refused) → IsDraftOf wanted draft
+        → IfOk result (λ frames. frames.sent ≡ frames.written) }
+    ensures err { (wanted : Result (List ℕ) Refused) → IsDraftOf wanted draft
+        → IfErr result (λ refusal. frame_for (W.meaning wire.now) ask.now wanted ≡ Err refusal) }
 {
-    check_place(table, request.actor, request.lease)?;
     let frames = match draft {
         Draft::Written(frames) => frames,
         Draft::Unwritable { entry, why } => return Err(SubmitRefusal::Unwritable { entry, why }),
     };
-    let size = wire.size(&request.ask);
+    let size = wire.size(ask);
     let limit = wire.limit();
     if limit < size {
         return Err(SubmitRefusal::TooLarge { size, limit });
@@ -44,72 +80,117 @@ fn take_frames<W: Wire>(
     Ok(frames)
 }
 
-/// Takes room for a request and all that it can cause.
-fn reserve_request(kept: &mut Kept, settings: &Settings) -> Result<(), AllocError>
-    requires { IsKept settings.now kept.old }
-    ensures stays { Stays kept.old.journal.items (lists_of kept.old.table) kept.new.journal.items
-        (lists_of kept.new.table) }
-    ensures kept { IsKept settings.now kept.new }
-    ensures turn { OnOk result
-        (HasTurnRoom (vec_len kept.new.journal) (capacities_of kept.new) (lists_of kept.new.table)) }
-    ensures rows { OnOk result (vec_len kept.new.table.rows < vec_capacity kept.new.table.rows) }
-{
-    reserve_turn(kept, settings)?;
-    kept.table.rows.reserve(1)
-}
+impl KeptTable {
+    ghost use Rattle.conn_core.specs.KeptMoves.{KeepsOn, Moves, Starts};
+    ghost use Rattle.conn_core.specs.KeptStates.{needs_of};
 
-/// Hands in a request.
-pub(crate) fn submit<W: Wire>(
-    kept: &mut Kept,
-    wire: &W,
-    settings: &Settings,
-    request: Handed,
-) -> Result<Accepted, SubmitRefusal>
-    requires settings { IsSettings settings.now }
-    requires kept { IsKept settings.now kept.old }
-    requires admitted { IsTrue ((W.meaning wire.now).admits request.ask) }
-    ensures answer { IsGivenOrNoMemory SubmitRefusal.NoMemory result
-        (accepted_of
-        (answer_of (handed_in (W.meaning wire.now) (lists_of kept.old.table) (request_of request)))) }
-    ensures turned { OnOk result
-        (TurnsAs settings.now kept.old.journal.items
-        (handed_in (W.meaning wire.now) (lists_of kept.old.table) (request_of request))
-        (λ started. record
-        { actor = request.actor; event = events.Submit request.lease request.ask request.timeout_ms request.moment; answer = started_answer started })
-        kept.new.journal.items (lists_of kept.new.table)) }
-    ensures stays { OnErr result
-        (Stays kept.old.journal.items (lists_of kept.old.table) kept.new.journal.items
-        (lists_of kept.new.table)) }
-    ensures kept { IsKept settings.now kept.new }
-{
-    let alloc = kept.table.alloc;
-    reserve_request(kept, settings)?;
-    let ask = request.ask.copy(alloc)?;
-    let reference = peek_reference(&kept.table.free);
-    let draft = write_frames(alloc, wire, &request.ask, reference)?;
-    let frames = take_frames(wire, &kept.table, &request, draft)?;
-    let FrameCopies { written, sent } = frames;
-    let actor = request.actor;
-    let event = Event::Submit {
-        lease: request.lease,
-        ask,
-        timeout_ms: request.timeout_ms,
-        now: request.moment,
-    };
-    let Accepted { id, reference } = start(&mut kept.table, request, sent)?;
-    let answer = Answer::Accepted {
-        id,
-        reference,
-        frame: written,
-    };
-    write_down(
-        kept,
-        settings,
-        Entry {
-            actor,
-            event,
-            answer,
-        },
-    );
-    Ok(Accepted { id, reference })
+    /// Takes room for what is kept of one more request beside its row.
+    pub fn reserve(&mut self) -> Result<(), AllocError>
+        ensures same { self.new ≡ record self.old { handed = self.new.handed } }
+        ensures items { self.new.handed.items ≡ self.old.handed.items }
+        ensures room { OnOk result (vec_len self.new.handed < vec_capacity self.new.handed) }
+    {
+        self.handed.reserve(1)
+    }
+
+    /// The reference that the next request goes out under, or 1 where none is free.
+    pub fn peek_reference(&self) -> u16
+        ensures reference { (t : Table) (journal : List Entry) → Stands journal self.now t → result ≡ reference_to_try t }
+        ensures some { 0 < result }
+    {
+        self.requests.next_reference().unwrap_or(1)
+    }
+
+    /// Whether the caller may hand in a request, as the table stands.
+    pub fn check_place(&self, actor: u32, lease: u64) -> Result<(), SubmitRefusal>
+        ensures { result ≡ place_answer actor lease self.now.closed self.now.leases self.now.requests }
+    {
+        if let Some(reason) = self.closed {
+            return Err(SubmitRefusal::Closed(reason));
+        }
+        if !holds(&self.leases, actor, lease) {
+            return Err(SubmitRefusal::NoLease);
+        }
+        if self.requests.full() {
+            return Err(SubmitRefusal::TableFull);
+        }
+        Ok(())
+    }
+
+    /// Queues a request under the first free reference. Its Submit is to be written down at a place of the journal.
+    pub fn start(
+        &mut self,
+        alloc: Global,
+        request: &NewRequest,
+        place: usize,
+        frame: ByteList,
+    ) -> Result<Accepted, SubmitRefusal>
+        requires room { vec_len self.old.handed < vec_capacity self.old.handed }
+        requires drawn { self.old.requests.drawn < 2 ^ 64 - 1 }
+        requires unclosed { self.old.closed ≡ None }
+        ensures moved { (journal : List Entry) (t : Table) → place ≡ length journal → Stands journal self.old t
+            → Starts journal self.new t (request_of request.now) frame result }
+        ensures unchanged { OnErr result (self.new ≡ self.old) }
+        ensures closed { self.new.closed ≡ self.old.closed }
+        ensures kept { OnOk result (KeepsOn self.old self.new) }
+        ensures needs { OnOk result (needs_of self.new ≡ needs_of self.old + 3) }
+    {
+        let clock = self.clock.max(request.moment);
+        let deadline = find_deadline(clock, request.timeout_ms);
+        match self.requests.add(request.actor, request.lease, deadline) {
+            Err(refusal) => Err(refuse_add(refusal)),
+            Ok((id, reference)) => {
+                self.clock = clock;
+                self.handed.push_reserved(HandedIn {
+                    id,
+                    place,
+                    reference,
+                    frame: Some(frame),
+                    values: ValueRows::new(alloc),
+                });
+                Ok(Accepted { id, reference })
+            }
+        }
+    }
+
+    /// Sends the queued request with the least id.
+    pub fn send(&mut self) -> Result<Sending, SendRefusal>
+        requires standing { (journal : List Entry) × (t : Table) × Stands journal self.old t }
+        requires table { IsRowTable self.old.requests }
+        ensures moved { (journal : List Entry) (t : Table) → Stands journal self.old t
+            → Moves journal self.new t (take_send t) result }
+        ensures unchanged { OnErr result (self.new ≡ self.old) }
+        ensures closed { self.new.closed ≡ self.old.closed }
+        ensures kept { OnOk result (KeepsOn self.old self.new) }
+        ensures needs { OnOk result (needs_of self.new + 1 ≤ needs_of self.old) }
+    {
+        if let Some(reason) = self.closed {
+            return Err(SendRefusal::Closed(reason));
+        }
+        match self.requests.send_next() {
+            None => Err(SendRefusal::Nothing),
+            Some(id) => Ok(hand_out(&mut self.handed, id)),
+        }
+    }
+
+    /// Takes an ended request of the actor out, and tells how it ended.
+    pub fn collect(&mut self, actor: u32, id: u64) -> Result<Outcome, TakeRefusal>
+        requires standing { (journal : List Entry) × (t : Table) × Stands journal self.old t }
+        requires table { IsRowTable self.old.requests }
+        ensures moved { (journal : List Entry) (t : Table) → Stands journal self.old t
+            → Moves journal self.new t (collect t actor id) result }
+        ensures unchanged { OnErr result (self.new ≡ self.old) }
+        ensures closed { self.new.closed ≡ self.old.closed }
+        ensures kept { OnOk result (KeepsOn self.old self.new) }
+        ensures needs { OnOk result (needs_of self.new + 1 ≤ needs_of self.old) }
+        ensures rows { OnOk result (length self.new.requests.rows + 1 ≡ length self.old.requests.rows) }
+    {
+        match self.requests.take(actor, id) {
+            Err(refusal) => Err(refusal),
+            Ok(kind) => {
+                let values = take_values(&mut self.handed, id);
+                Ok(Outcome { kind, values })
+            }
+        }
+    }
 }

@@ -31,3 +31,10 @@ impl Settings {
             && (1..=86_400_000).contains(&self.wait_ms)
     }
 }
+
+/// What is fixed for a connection: its wire, and how it is shared.
+#[derive(Debug, Drop)]
+pub struct Key<W> {
+    pub wire: W,
+    pub settings: Settings,
+}

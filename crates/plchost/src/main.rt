@@ -1,43 +1,29 @@
 //! The program `plchost`: it decodes captures by descriptions in the first form of mspec, the language of Apache PLC4X's
-//! protocol descriptions, and runs scripts of the request table. It compiles nothing yet.
+//! protocol descriptions, prints descriptions, and runs scripts of the request table. It compiles nothing yet.
 #![tactic(auto)]
 
-mod closing;
-mod decoding;
-mod faults;
-mod files;
-mod inputs;
-mod lines;
-mod listings;
-mod plain_types;
-mod preparing;
-mod printing;
+#[cfg(test)]
+mod form_tests;
+#[cfg(test)]
+mod print_tests;
 #[cfg(test)]
 mod range_tests;
-mod replaying;
-mod replies;
 #[cfg(test)]
 mod script_tests;
-mod statuses;
 #[cfg(test)]
 mod tests;
-mod tokens;
-mod tool;
-mod values;
-mod words;
 
 ghost use Rattle.std.specs.Prelude.{◌≡◌, ◌⊎◌, [], Ok, IfOk, IfErr};
 ghost use Rattle.std.specs.Process.{exit_status};
-ghost use Rattle.plchost.specs.Runs.{IsRun, shown};
+ghost use Rattle.host_engine.specs.Runs.{IsRun, shown};
 
-use faults::Cut;
+use host_engine::{Cut, conclude, tool_main};
 use link_io::{FileShelf, Shelf, Sink, Source, StdSink, StdSource, StringList};
 use std::alloc::{AllocError, Global};
 use std::io::ErrorKind;
 use std::process::ExitCode;
 use std::rt::Env;
 use std::{env, io};
-use tool::{conclude, tool_main};
 
 /// The words behind the program's name. A word that isn't text is an error.
 fn read_words(rt: &(impl Env + AllocGlobal)) -> io::Result<StringList> {

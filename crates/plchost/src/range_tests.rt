@@ -1,9 +1,6 @@
 //! The ends of the ranges: no clause refuses a body that finds no memory past some size.
-use crate::closing::close;
-use crate::inputs::How;
-use crate::statuses::Status;
 use crate::tests::{ONE_BYTE, decoded};
-use crate::values::{Rest, ValueWhy, put_values};
+use host_engine::{How, Rest, Status, ValueWhy, close, put_values};
 use link_io::MemSink;
 use mspec_meaning::can_read;
 use mspec_tree::{Def, DefBody, Description, Place};
@@ -14,6 +11,8 @@ use std::fmt::Write;
 use std::test::Fail;
 
 const NOT_BUILT: &str = "description refused 1:1 NotBuilt\n";
+
+const TEXT_TOO_LONG: &str = "description refused 1:1 TextTooLong\n";
 
 /// A type `P` of so many fields of a byte.
 fn type_of_bytes(alloc: Global, count: u32) -> Result<String, AllocError> {
@@ -56,7 +55,11 @@ fn a_type_has_up_to_256_fields(rt: HostRuntime) -> Result<(), Fail> {
 
 #[test]
 fn a_description_has_up_to_1048576_bytes(rt: HostRuntime) -> Result<(), Fail> {
-    for (bytes, want, status) in [(1_048_576, "a = 7\n\n", 0), (1_048_577, NOT_BUILT, 1)] {
+    for (bytes, want, status) in [
+        (1_048_576, "a = 7\n\n", 0),
+        (1_048_577, TEXT_TOO_LONG, 1),
+        (1_100_000, TEXT_TOO_LONG, 1),
+    ] {
         let mut text = Vec::from_slice(rt.alloc(), ONE_BYTE)?;
         text.resize(bytes, b' ')?;
         let ran = decoded(rt.alloc(), &text, b"\x07", 100_000)?;

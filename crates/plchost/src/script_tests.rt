@@ -105,14 +105,14 @@ fn small_pieces_of_a_script_change_nothing(rt: HostRuntime) -> Result<(), Fail> 
     Ok(())
 }
 
-/// Scripts with a line outside the first form, and what is said of each.
-const REFUSED: [(&[u8], &[u8]); 9] = [
+/// Scripts with a line that is none, and what is said of each.
+const REFUSED: [(&[u8], &[u8]); 8] = [
     (b"", b"line refused 1\n"),
     (b"\n", b"line refused 1\n"),
     (b"ask 1 0\n", b"line refused 1\n"),
-    (b"table 2 8 1 64 60000 60000\n", b"line refused 2\n"),
+    (b"table 2 8 1 64 100 50\nasks 1 0\n", b"line refused 2\n"),
     (
-        b"table 2 8 1 64 60000 60000\nasks 1 0\n",
+        b"table 2 8 1 64 100 50\ntable 2 8 1 64 100 50\n",
         b"line refused 2\n",
     ),
     (
@@ -124,17 +124,13 @@ const REFUSED: [(&[u8], &[u8]); 9] = [
         b"granted 1\nnothing\nline refused 4\n",
     ),
     (
-        b"table 2 8 1 64 60000 60000\nask 1 0\nframe 0006000101\nsend\n",
-        b"granted 1\nline refused 3\n",
-    ),
-    (
         b"table 2 8 1 64 60000 60000\nask 1 0\nsubmit 1 1 0 1000 A\nsend\n",
         b"granted 1\nline refused 3\n",
     ),
 ];
 
 #[test]
-fn the_first_line_outside_the_form_is_refused(rt: HostRuntime) -> Result<(), Fail> {
+fn the_first_line_that_is_none_is_refused(rt: HostRuntime) -> Result<(), Fail> {
     for (script, want) in REFUSED {
         let ran = replay(rt.alloc(), script, NONE_FAILS, 100)?;
         assert_eq!(rt; ran.text.as_slice(), want);
@@ -143,25 +139,34 @@ fn the_first_line_outside_the_form_is_refused(rt: HostRuntime) -> Result<(), Fai
     Ok(())
 }
 
+/// Scripts of time, waiters, closing and the table alone, with their answers.
+const WHOLE: [(&[u8], &[u8]); 5] = [
+    (b"table 2 8 1 64 60000 60000", b"entries 0\n"),
+    (
+        b"table 2 8 1 64 60000 60000\nask 1 0\nsubmit 1 1 0 1000 AA\nsend\ntick 999\ntick 1000\nframe 00050001BB\ncollect 1 1\n",
+        b"granted 1\nstarted 1 1\nsent 1 00050001aa\nticked 0 0 0\nticked 1 0 0\nlate 1\nexpired\nentries 6\n",
+    ),
+    (
+        b"table 2 8 1 64 100 50\nask 1 0\nask 2 0\ntick 50\npoll 2 2\nask 2 60\ntick 100\npoll 2 3\npoll 1 1\n",
+        b"granted 1\nwaiting 2 0\nticked 0 0 1\nno lease\nwaiting 3 0\nticked 0 1 0\nheld\nno lease\nentries 5\n",
+    ),
+    (
+        b"table 2 8 1 64 60000 60000\nask 1 0\nsubmit 1 1 0 1000 AA\nsend\nframe 0003\ncollect 1 1\nask 2 0\n",
+        b"granted 1\nstarted 1 1\nsent 1 00050001aa\nundecodable 0 length 3\nlost undecodable 0 length 3\nclosed undecodable 0 length 3\nentries 5\n",
+    ),
+    (
+        b"table 2 8 1 64 60000 60000\nask 1 0\nsubmit 1 1 0 1000 AA\nshutdown 1\nshutdown 1\ncollect 1 1\n",
+        b"granted 1\nstarted 1 1\nstopping\nclosed asked\nlost asked\nentries 4\n",
+    ),
+];
+
 #[test]
-fn a_script_has_at_most_63_lines(rt: HostRuntime) -> Result<(), Fail> {
-    let mut script = Vec::from_slice(rt.alloc(), b"table 2 8 1 64 60000 60000\nask 1 0\n")?;
-    let mut want = Vec::from_slice(rt.alloc(), b"granted 1\n")?;
-    for _ in 0..61 {
-        script.extend_from_slice(b"send\n")?;
-        want.extend_from_slice(b"nothing\n")?;
+fn time_waiters_and_closing_are_answered_by_the_table(rt: HostRuntime) -> Result<(), Fail> {
+    for (script, want) in WHOLE {
+        let ran = replay(rt.alloc(), script, NONE_FAILS, 100)?;
+        assert_eq!(rt; ran.text.as_slice(), want);
+        assert_eq!(rt; ran.status, 0);
     }
-    let ran = replay(rt.alloc(), &script, NONE_FAILS, 1000)?;
-    let answers = want.len();
-    want.extend_from_slice(b"entries 1\n")?;
-    assert_eq!(rt; ran.text.as_slice(), want.as_slice());
-    assert_eq!(rt; ran.status, 0);
-    script.extend_from_slice(b"send\n")?;
-    let ran = replay(rt.alloc(), &script, NONE_FAILS, 1000)?;
-    want.truncate(answers);
-    want.extend_from_slice(b"line refused 64\n")?;
-    assert_eq!(rt; ran.text.as_slice(), want.as_slice());
-    assert_eq!(rt; ran.status, 10);
     Ok(())
 }
 

@@ -1,7 +1,7 @@
 ghost use Rattle.std.specs.Prelude.{◌<◌};
 
 use crate::known_words;
-use crate::tool::tool_main;
+use host_engine::tool_main;
 use link_io::{MemShelf, MemSink, MemSource, StringList};
 use std::alloc::{AllocError, Global};
 use std::fmt::Write;
@@ -166,7 +166,7 @@ fn an_output_of_more_bytes_than_are_gathered_is_whole(rt: HostRuntime) -> Result
 }
 
 /// Words that are no command's.
-const REFUSED_WORDS: [&[&str]; 12] = [
+const REFUSED_WORDS: [&[&str]; 17] = [
     &[],
     &["replay", "p"],
     &["replays"],
@@ -179,6 +179,11 @@ const REFUSED_WORDS: [&[&str]; 12] = [
     &["decode", "", "P"],
     &["decode", "p", "-P"],
     &["Decode", "p", "P"],
+    &["print"],
+    &["print", "p", "P"],
+    &["print", ""],
+    &["print", "-p"],
+    &["Print", "p"],
 ];
 
 #[test]

@@ -15,6 +15,6 @@ other_name : (word name : List ℕ) → word ≢ name → bytes_eq word name ≡
 other_name word name other = false_from_ne_true (bytes_eq word name) (λ test. other ((bytes_eq-Decides word name).0 test))
 
 -- a word that is none of the names
-pub no_call : (word : List ℕ) (words : List (List ℕ)) → word ≢ codes "ask" → word ≢ codes "submit" → word ≢ codes "send" → word ≢ codes "frame" → word ≢ codes "cancel" → word ≢ codes "collect" → call_of word words ≡ None
+pub no_call : (word : List ℕ) (words : List (List ℕ)) → word ≢ codes "ask" → word ≢ codes "poll" → word ≢ codes "release" → word ≢ codes "submit" → word ≢ codes "send" → word ≢ codes "frame" → word ≢ codes "cancel" → word ≢ codes "collect" → word ≢ codes "tick" → word ≢ codes "shutdown" → call_of word words ≡ None
 unfolding call_of
-no_call word words ask submit send frame cancel collect = simp (other_name, ask, submit, send, frame, cancel, collect)
+no_call word words ask poll release submit send frame cancel collect tick shutdown = simp (other_name, ask, poll, release, submit, send, frame, cancel, collect, tick, shutdown)

@@ -1,5 +1,5 @@
 -- What the readers of one word give is what the word spells.
-use Rattle.std.proofs.Common.{◌≡◌, ℕ, ◌<◌, ◌^◌, ◌&&◌, Bool, true, false, cond, eqb, List, [], ◌∷◌, length, Option, Some, None, Result, Ok, Err, refl, ap, ◌∙◌, arith, nat_lt, nat_le}
+use Rattle.std.proofs.Common.{◌≡◌, ℕ, ◌-◌, ◌<◌, ◌^◌, ◌&&◌, Bool, true, false, cond, eqb, List, [], ◌∷◌, length, Option, Some, None, Result, Ok, Err, refl, ap, ◌∙◌, arith, nat_lt, nat_le}
 use Rattle.std.specs.Char.{is_ascii_digit}
 use Rattle.std.specs.List.{list_all}
 use Rattle.std.specs.Result.{result_ok}
@@ -8,10 +8,10 @@ use Rattle.std.proofs.lemmas.Bool.{and_parts, and_from, cond-true, cond-false, e
 use Rattle.std.proofs.lemmas.Option.{option_and_then_some, cond_some}
 use Rattle.hex.specs.Hex.{decode_of}
 use Rattle.script_lines.specs.ReaderParts.{number_of, within_of, hex_of}
-use Rattle.script_lines.specs.Scripts.{IsWithin, IsLong, IsHex}
+use Rattle.script_lines.specs.Scripts.{IsWithin, IsHex}
 use Rattle.script_lines.proofs.NumberLaws.{digits_model}
 
-pub number-sound : (word : List ℕ) (n : ℕ) → number_of word ≡ Some n → IsLong word n
+pub number-sound : (word : List ℕ) (n : ℕ) → number_of word ≡ Some n → IsWithin 0 (2 ^ 64 - 1) word n
 unfolding number_of
 number-sound word n h =
     let found = cond_some (list_all is_ascii_digit word && (nat_lt 0 (length word) && nat_lt (digits_value 10 word) (2 ^ 64))) (digits_value 10 word) n h in
@@ -19,13 +19,13 @@ number-sound word n h =
     let sizes = and_parts (nat_lt 0 (length word)) _ tests.1 in
     let low = ltb-true 0 (length word) sizes.0 in
     let high = ltb-true (digits_value 10 word) (2 ^ 64) sizes.1 in
-    (((low, digits_model.to word tests.0), found.1), omega (arith, found.1))
+    (((low, digits_model.to word tests.0), found.1), omega arith, omega (arith, found.1))
 
-pub number-complete : (word : List ℕ) (n : ℕ) → IsLong word n → number_of word ≡ Some n
+pub number-complete : (word : List ℕ) (n : ℕ) → IsWithin 0 (2 ^ 64 - 1) word n → number_of word ≡ Some n
 unfolding number_of
 number-complete word n h =
     let low = lt-ltb 0 (length word) h.0.0.0 in
-    let high = lt-ltb (digits_value 10 word) (2 ^ 64) (omega (arith, h.0.1, h.1)) in
+    let high = lt-ltb (digits_value 10 word) (2 ^ 64) (omega (arith, h.0.1, h.2)) in
     let all = digits_model.from word h.0.0.1 in
     let test = and_from (list_all is_ascii_digit word) _ all (and_from (nat_lt 0 (length word)) (nat_lt (digits_value 10 word) (2 ^ 64)) low high) in
     cond-true _ (Some (digits_value 10 word)) None test ∙ ap (λ x. Some x) h.0.1
@@ -44,7 +44,7 @@ within-sound low high word n h =
 pub within-complete : (low high : ℕ) (word : List ℕ) (n : ℕ) → high < 2 ^ 64 → IsWithin low high word n → within_of low high word ≡ Some n
 unfolding within_of
 within-complete low high word n fits h =
-    let found = number-complete word n (h.0, omega (arith, h.2)) in
+    let found = number-complete word n (h.0, omega arith, omega (arith, h.2)) in
     let test = and_from (nat_le low n) (nat_le n high) (le-leb low n h.1) (le-leb n high h.2) in
     rw found (cond-true _ (Some n) None test)
 

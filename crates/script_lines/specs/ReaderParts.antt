@@ -7,11 +7,10 @@ use Rattle.std.specs.Result.{result_ok}
 use Rattle.std.specs.Str.{bytes_eq}
 use Rattle.std.specs.Str.Parse.{digits_value}
 use Rattle.hex.specs.Hex.{decode_of}
-use Rattle.wire_frames.specs.RawFrames.{is_whole}
 use Rattle.conn_core.specs.Journals.{timeout_limit}
 use Rattle.conn_core.specs.declared.settings.Settings.{Settings}
 use Rattle.script_lines.specs.declared.commands.Call.{Call}
-use Rattle.script_lines.specs.declared.commands.Call.TheVariants.{AskLease, Submit, TakeSend, Frame, Cancel, Collect}
+use Rattle.script_lines.specs.declared.commands.Call.TheVariants.{AskLease, PollLease, Release, Submit, TakeSend, Frame, Cancel, Collect, Tick, Shutdown}
 use Rattle.script_lines.specs.declared.commands.Command.{Command}
 use Rattle.script_lines.specs.declared.commands.Command.TheVariants.{Table, Calls}
 use Rattle.script_lines.specs.declared.commands.LineFault.{LineFault}
@@ -64,6 +63,24 @@ pair_of (a ∷ b ∷ []) = do
   Some (caller, n)
 pair_of _ = None
 
+unfoldable pub ask_of : List (List ℕ) → Option Call
+ask_of words = do
+  p ← pair_of words
+  Some (AskLease p.0 p.1)
+
+unfoldable pub poll_of : List (List ℕ) → Option Call
+poll_of words = do
+  p ← pair_of words
+  Some (PollLease p.0 p.1)
+
+unfoldable pub release_of : List (List ℕ) → Option Call
+release_of (a ∷ b ∷ c ∷ []) = do
+  caller ← within_of 1 1000 a
+  lease ← number_of b
+  now ← number_of c
+  Some (Release caller lease now)
+release_of _ = None
+
 unfoldable pub submit_of : List (List ℕ) → Option Call
 submit_of (a ∷ b ∷ c ∷ d ∷ e ∷ []) = do
   caller ← within_of 1 1000 a
@@ -74,20 +91,15 @@ submit_of (a ∷ b ∷ c ∷ d ∷ e ∷ []) = do
   Some (Submit caller lease now timeout payload)
 submit_of _ = None
 
+unfoldable pub send_of : List (List ℕ) → Option Call
+send_of [] = Some TakeSend
+send_of _ = None
+
 unfoldable pub frame_of : List (List ℕ) → Option Call
 frame_of (a ∷ []) = do
   bytes ← hex_of a
   Some (Frame bytes)
 frame_of _ = None
-
-unfoldable pub send_of : List (List ℕ) → Option Call
-send_of [] = Some TakeSend
-send_of _ = None
-
-unfoldable pub ask_of : List (List ℕ) → Option Call
-ask_of words = do
-  p ← pair_of words
-  Some (AskLease p.0 p.1)
 
 unfoldable pub cancel_of : List (List ℕ) → Option Call
 cancel_of words = do
@@ -99,16 +111,32 @@ collect_of words = do
   p ← pair_of words
   Some (Collect p.0 p.1)
 
+unfoldable pub tick_of : List (List ℕ) → Option Call
+tick_of (a ∷ []) = do
+  now ← number_of a
+  Some (Tick now)
+tick_of _ = None
+
+unfoldable pub shutdown_of : List (List ℕ) → Option Call
+shutdown_of (a ∷ []) = do
+  caller ← within_of 1 1000 a
+  Some (Shutdown caller)
+shutdown_of _ = None
+
 -- ---- a line
 
 unfoldable pub call_of : List ℕ → List (List ℕ) → Option Call
 call_of name words =
     if bytes_eq name (codes "ask") then ask_of words
+    else (if bytes_eq name (codes "poll") then poll_of words
+    else (if bytes_eq name (codes "release") then release_of words
     else (if bytes_eq name (codes "submit") then submit_of words
     else (if bytes_eq name (codes "send") then send_of words
     else (if bytes_eq name (codes "frame") then frame_of words
     else (if bytes_eq name (codes "cancel") then cancel_of words
-    else (if bytes_eq name (codes "collect") then collect_of words else None)))))
+    else (if bytes_eq name (codes "collect") then collect_of words
+    else (if bytes_eq name (codes "tick") then tick_of words
+    else (if bytes_eq name (codes "shutdown") then shutdown_of words else None)))))))))
 
 abbrev pub command_at : List ℕ → List (List ℕ) → Option Command
 command_at name words =
@@ -123,19 +151,7 @@ unfoldable pub command_of : List (List ℕ) → Option Command
 command_of [] = None
 command_of (name ∷ words) = command_at name words
 
--- ---- the first form
-
-abbrev pub is_further : ℕ → Bool
-is_further n = nat_le 3 n && nat_le n 63
-
-abbrev pub is_call_at : ℕ → Call → Bool
-is_call_at n (AskLease caller now) = (n == 2) && ((caller == 1) && (now == 0))
-is_call_at n (Submit caller lease now timeout payload) = is_further n && (caller == 1)
-is_call_at n TakeSend = is_further n
-is_call_at n (Frame bytes) = is_further n && is_whole bytes
-is_call_at n (Cancel caller id) = is_further n && (caller == 1)
-is_call_at n (Collect caller id) = is_further n && (caller == 1)
-
+-- which command may stand at which line
 abbrev pub is_at : ℕ → Command → Bool
-is_at n (Table s) = (n == 1) && ((s.share == 1) && ((s.lease_ms == 60000) && (s.wait_ms == 60000)))
-is_at n (Calls call) = is_call_at n call
+is_at n (Table s) = n == 1
+is_at n (Calls call) = nat_le 2 n

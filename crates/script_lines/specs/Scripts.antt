@@ -1,13 +1,10 @@
--- Scripts of the request table: what their lines say, and the first form of a script.
-use Rattle.std.specs.Prelude.{◌≡◌, ◌≢◌, ℕ, ◌<◌, ◌≤◌, ◌^◌, ◌==◌, nat_le, Bool, List, [], ◌∷◌, codes, Ok, IsTrue}
+-- Scripts of the request table: what their lines say.
+use Rattle.std.specs.Prelude.{◌≡◌, ◌≢◌, ℕ, ◌-◌, ◌≤◌, ◌^◌, ◌==◌, Bool, List, [], ◌∷◌, codes, Ok}
 use Rattle.std.specs.List.{slice_split}
 use Rattle.std.specs.Str.Parse.{IsNumeral, digits_value}
 use Rattle.hex.specs.Hex.{decode_of}
-use Rattle.wire_frames.specs.RawFrames.{is_whole}
 use Rattle.conn_core.specs.Journals.{timeout_limit}
-use Rattle.conn_core.specs.Tables.{IsSettings}
-use Rattle.script_lines.specs.declared.commands.Call.{Call}
-use Rattle.script_lines.specs.declared.commands.Call.TheVariants.{AskLease, Submit, TakeSend, Frame, Cancel, Collect}
+use Rattle.script_lines.specs.declared.commands.Call.TheVariants.{AskLease, PollLease, Release, Submit, TakeSend, Frame, Cancel, Collect, Tick, Shutdown}
 use Rattle.script_lines.specs.declared.commands.Command.{Command}
 use Rattle.script_lines.specs.declared.commands.Command.TheVariants.{Table, Calls}
 
@@ -21,81 +18,86 @@ words_of line = slice_split (λ b. b == 32) line
 abbrev pub IsNumber : List ℕ → ℕ → Type 0
 IsNumber word n = IsNumeral 10 word × (digits_value 10 word ≡ n)
 
+-- the same of a number within bounds
 abbrev pub IsWithin : (low high : ℕ) → List ℕ → ℕ → Type 0
 IsWithin low high word n = IsNumber word n × (low ≤ n) × (n ≤ high)
-
--- a caller
-abbrev pub IsCaller : List ℕ → ℕ → Type 0
-IsCaller word caller = IsWithin 1 1000 word caller
-
--- a moment, the number of a lease, or the id of a request
-abbrev pub IsLong : List ℕ → ℕ → Type 0
-IsLong word n = IsNumber word n × (n < 2 ^ 64)
 
 -- one or more pairs of hexadecimal digits in either case, and their bytes
 abbrev pub IsHex : List ℕ → List ℕ → Type 0
 IsHex word bytes = (word ≢ []) × (decode_of word ≡ Ok bytes)
 
+-- ---- commands
+
+-- what a word behind a command's name stands for
+pub data Operand : Type 0 where
+  -- a number between bounds
+  Number : (low high value : ℕ) → Operand
+  Bytes : (bytes : List ℕ) → Operand
+
+-- a caller
+abbrev pub by : ℕ → Operand
+by caller = Number 1 1000 caller
+
+-- a moment, the number of a lease, or the id of a request: below 2^64
+abbrev pub long : ℕ → Operand
+long n = Number 0 (2 ^ 64 - 1) n
+
+-- how long a lease or a wait for it lasts
+abbrev pub lasting : ℕ → Operand
+lasting ms = Number 1 86400000 ms
+
+-- how a command is spelled: its name, and what the words behind it stand for
+pub record Spelling : Type 0 where
+  pub name : List ℕ
+  pub operands : List Operand
+
+-- One row for each command.
+abbrev pub spelling_of : Command → Spelling
+spelling_of (Table s) = record {
+  name = codes "table";
+  operands = Number 1 65535 s.references ∷ Number 1 64 s.window ∷ Number 1 64 s.share ∷ Number 64 262144 s.journal ∷ lasting s.lease_ms ∷ lasting s.wait_ms ∷ [];
+}
+spelling_of (Calls (AskLease caller now)) = record { name = codes "ask"; operands = by caller ∷ long now ∷ [] }
+spelling_of (Calls (PollLease caller lease)) = record { name = codes "poll"; operands = by caller ∷ long lease ∷ [] }
+spelling_of (Calls (Release caller lease now)) = record { name = codes "release"; operands = by caller ∷ long lease ∷ long now ∷ [] }
+spelling_of (Calls (Submit caller lease now timeout payload)) = record {
+  name = codes "submit";
+  operands = by caller ∷ long lease ∷ long now ∷ Number 1 timeout_limit timeout ∷ Bytes payload ∷ [];
+}
+spelling_of (Calls TakeSend) = record { name = codes "send"; operands = [] }
+spelling_of (Calls (Frame bytes)) = record { name = codes "frame"; operands = Bytes bytes ∷ [] }
+spelling_of (Calls (Cancel caller id)) = record { name = codes "cancel"; operands = by caller ∷ long id ∷ [] }
+spelling_of (Calls (Collect caller id)) = record { name = codes "collect"; operands = by caller ∷ long id ∷ [] }
+spelling_of (Calls (Tick now)) = record { name = codes "tick"; operands = long now ∷ [] }
+spelling_of (Calls (Shutdown caller)) = record { name = codes "shutdown"; operands = by caller ∷ [] }
+
+abbrev pub IsSpelled : List ℕ → Operand → Type 0
+IsSpelled word (Number low high value) = IsWithin low high word value
+IsSpelled word (Bytes bytes) = IsHex word bytes
+
+-- each word spells its operand, and there are as many words as operands
+abbrev pub AreSpelled : List (List ℕ) → List Operand → Type 0
+AreSpelled [] [] = Unit {0}
+AreSpelled [] (operand ∷ operands) = ⊥
+AreSpelled (word ∷ words) [] = ⊥
+AreSpelled (word ∷ words) (operand ∷ operands) = IsSpelled word operand × AreSpelled words operands
+
+-- a command's name, and then its operands
+abbrev pub Spells : List (List ℕ) → Command → Type 0
+Spells [] command = ⊥
+Spells (word ∷ words) command = (word ≡ (spelling_of command).name) × AreSpelled words (spelling_of command).operands
+
 -- ---- lines
 
--- `ask CALLER NOW`, `submit CALLER LEASE NOW TIMEOUT HEX`, `send`, `frame HEX`, `cancel CALLER ID`, `collect CALLER ID`
-abbrev pub SpellsCall : List (List ℕ) → Call → Type 0
-SpellsCall words (AskLease caller now) =
-    (a b : List ℕ) × (words ≡ codes "ask" ∷ a ∷ b ∷ []) × IsCaller a caller × IsLong b now
-SpellsCall words (Submit caller lease now timeout payload) =
-    (a b c d e : List ℕ)
-    × (words ≡ codes "submit" ∷ a ∷ b ∷ c ∷ d ∷ e ∷ [])
-    × IsCaller a caller
-    × IsLong b lease
-    × IsLong c now
-    × IsWithin 1 timeout_limit d timeout
-    × IsHex e payload
-SpellsCall words TakeSend = words ≡ codes "send" ∷ []
-SpellsCall words (Frame bytes) = (a : List ℕ) × (words ≡ codes "frame" ∷ a ∷ []) × IsHex a bytes
-SpellsCall words (Cancel caller id) =
-    (a b : List ℕ) × (words ≡ codes "cancel" ∷ a ∷ b ∷ []) × IsCaller a caller × IsLong b id
-SpellsCall words (Collect caller id) =
-    (a b : List ℕ) × (words ≡ codes "collect" ∷ a ∷ b ∷ []) × IsCaller a caller × IsLong b id
-
--- `table REFERENCES WINDOW SHARE JOURNAL LEASE_MS WAIT_MS`, or a call
-abbrev pub Spells : List (List ℕ) → Command → Type 0
-Spells words (Table s) =
-    (a b c d e f : List ℕ)
-    × (words ≡ codes "table" ∷ a ∷ b ∷ c ∷ d ∷ e ∷ f ∷ [])
-    × IsNumber a s.references
-    × IsNumber b s.window
-    × IsNumber c s.share
-    × IsNumber d s.journal
-    × IsNumber e s.lease_ms
-    × IsNumber f s.wait_ms
-    × IsSettings s
-Spells words (Calls call) = SpellsCall words call
-
--- ---- the first form
-
--- Lines count from 1. The first two must stand: the table, and the lease that is asked for.
+-- Lines count from 1. The first must stand: it makes the table.
 abbrev pub must_stand : ℕ → Bool
-must_stand n = nat_le n 2
+must_stand n = n == 1
 
--- a line behind these two, up to the 63rd, which is the last
-abbrev pub IsFurther : ℕ → Type 0
-IsFurther n = (3 ≤ n) × (n ≤ 63)
-
--- which call may stand at which line
-abbrev pub IsCallAt : ℕ → Call → Type 0
-IsCallAt n (AskLease caller now) = (n ≡ 2) × (caller ≡ 1) × (now ≡ 0)
-IsCallAt n (Submit caller lease now timeout payload) = IsFurther n × (caller ≡ 1)
-IsCallAt n TakeSend = IsFurther n
-IsCallAt n (Frame bytes) = IsFurther n × IsTrue (is_whole bytes)
-IsCallAt n (Cancel caller id) = IsFurther n × (caller ≡ 1)
-IsCallAt n (Collect caller id) = IsFurther n × (caller ≡ 1)
-
--- which command may stand at which line: first the table, shared by one lease that lasts 60 seconds, as a wait for it does;
--- then caller 1 asks for a lease at the moment 0; then its calls, sendings, and whole frames
+-- which command may stand at which line: the table at the first, and calls behind it
 abbrev pub IsAt : ℕ → Command → Type 0
-IsAt n (Table s) = (n ≡ 1) × (s.share ≡ 1) × (s.lease_ms ≡ 60000) × (s.wait_ms ≡ 60000)
-IsAt n (Calls call) = IsCallAt n call
+IsAt n (Table s) = n ≡ 1
+IsAt n (Calls call) = 2 ≤ n
 
--- the line with this number, counted from 1, is this command, in the first form
+-- the line with this number, counted from 1, is this command
 abbrev pub IsLine : ℕ → List ℕ → Command → Type 0
 IsLine n line command = Spells (words_of line) command × IsAt n command

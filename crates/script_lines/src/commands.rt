@@ -12,6 +12,15 @@ pub enum Call {
         caller: u32,
         now: u64,
     },
+    PollLease {
+        caller: u32,
+        lease: u64,
+    },
+    Release {
+        caller: u32,
+        lease: u64,
+        now: u64,
+    },
     Submit {
         caller: u32,
         lease: u64,
@@ -30,6 +39,12 @@ pub enum Call {
     Collect {
         caller: u32,
         id: u64,
+    },
+    Tick {
+        now: u64,
+    },
+    Shutdown {
+        caller: u32,
     },
 }
 

@@ -20,8 +20,7 @@ pub fn command_or_none()
         → ((command : Command) × IsLine n line command) ⊎ ((command : Command) → IsLine n line command → ⊥) }
 {}
 
-/// Reads the line with this number, counted from 1, as a command of a script in the first form. The line is without
-/// its end.
+/// Reads the line with this number, counted from 1, as a command of a script. The line is without its end.
 pub fn read_command(alloc: Global, number: u64, line: &[u8]) -> Result<Command, LineFault>
     ensures read { IfOk result (λ command. IsLine number line.now command) }
     ensures refused { result ≡ Err LineFault.Refused → (command : Command) → IsLine number line.now command → ⊥ }

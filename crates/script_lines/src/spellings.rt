@@ -1,7 +1,7 @@
 //! The command that a line's words spell.
 
 ghost use Rattle.std.specs.Prelude.{◌≡◌, map};
-ghost use Rattle.script_lines.specs.ReaderParts.{IsGivenBy, ask_of, call_of, cancel_of, collect_of, command_of, frame_of, pair_of, send_of, submit_of, table_of, within_of};
+ghost use Rattle.script_lines.specs.ReaderParts.{IsGivenBy, ask_of, call_of, cancel_of, collect_of, command_of, frame_of, pair_of, poll_of, release_of, send_of, shutdown_of, submit_of, table_of, tick_of, within_of};
 
 use crate::commands::{Call, Command, LineFault};
 use crate::words::{read_hex, read_number, read_within};
@@ -56,6 +56,27 @@ fn read_ask(words: &[&[u8]]) -> Option<Call>
     Some(Call::AskLease { caller, now })
 }
 
+#[tactic(auto, unfolding(crate::specs::ReaderParts::poll_of))]
+fn read_poll(words: &[&[u8]]) -> Option<Call>
+    ensures { result ≡ poll_of (map (λ w. w.now) words.now) }
+{
+    let (caller, lease) = read_pair(words)?;
+    Some(Call::PollLease { caller, lease })
+}
+
+#[tactic(auto, unfolding(crate::specs::ReaderParts::release_of))]
+fn read_release(words: &[&[u8]]) -> Option<Call>
+    ensures { result ≡ release_of (map (λ w. w.now) words.now) }
+{
+    let [caller, lease, now] = words else {
+        return None;
+    };
+    let caller = read_caller(caller)?;
+    let lease = read_number(lease)?;
+    let now = read_number(now)?;
+    Some(Call::Release { caller, lease, now })
+}
+
 #[tactic(auto, unfolding(crate::specs::ReaderParts::cancel_of))]
 fn read_cancel(words: &[&[u8]]) -> Option<Call>
     ensures { result ≡ cancel_of (map (λ w. w.now) words.now) }
@@ -70,6 +91,28 @@ fn read_collect(words: &[&[u8]]) -> Option<Call>
 {
     let (caller, id) = read_pair(words)?;
     Some(Call::Collect { caller, id })
+}
+
+#[tactic(auto, unfolding(crate::specs::ReaderParts::tick_of))]
+fn read_tick(words: &[&[u8]]) -> Option<Call>
+    ensures { result ≡ tick_of (map (λ w. w.now) words.now) }
+{
+    let [now] = words else {
+        return None;
+    };
+    let now = read_number(now)?;
+    Some(Call::Tick { now })
+}
+
+#[tactic(auto, unfolding(crate::specs::ReaderParts::shutdown_of))]
+fn read_shutdown(words: &[&[u8]]) -> Option<Call>
+    ensures { result ≡ shutdown_of (map (λ w. w.now) words.now) }
+{
+    let [caller] = words else {
+        return None;
+    };
+    let caller = read_caller(caller)?;
+    Some(Call::Shutdown { caller })
 }
 
 #[tactic(auto, unfolding(crate::specs::ReaderParts::send_of))]
@@ -121,11 +164,15 @@ fn read_call(alloc: Global, name: &[u8], words: &[&[u8]]) -> Result<Call, LineFa
 {
     match name {
         b"ask" => read_ask(words).ok_or(LineFault::Refused),
+        b"poll" => read_poll(words).ok_or(LineFault::Refused),
+        b"release" => read_release(words).ok_or(LineFault::Refused),
         b"submit" => read_submit(alloc, words),
         b"send" => read_send(words).ok_or(LineFault::Refused),
         b"frame" => read_frame(alloc, words),
         b"cancel" => read_cancel(words).ok_or(LineFault::Refused),
         b"collect" => read_collect(words).ok_or(LineFault::Refused),
+        b"tick" => read_tick(words).ok_or(LineFault::Refused),
+        b"shutdown" => read_shutdown(words).ok_or(LineFault::Refused),
         _ => Err(LineFault::Refused),
     }
 }

@@ -1,7 +1,9 @@
 pub mod FrontLaws
+pub mod LegalLaws
 pub mod LineByLine
-pub mod OpenLaws
+pub mod PollLaws
 pub mod RefusedLaws
 pub mod ReplyLaws
+pub mod RowWords
 pub mod ScriptLaws
-pub mod UnwornLaws
+pub mod StepWords

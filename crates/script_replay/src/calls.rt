@@ -2,14 +2,10 @@
 
 ghost use Rattle.std.specs.Prelude.{◌≡◌, ◌≤◌, MatchResult};
 ghost use Rattle.conn_core.specs.Journals.{timeout_limit};
-ghost use Rattle.conn_core.specs.States.{state_after, table_in};
-ghost use Rattle.conn_core.specs.Steps.{answer_of, apply_frame, ask_lease, cancel, collect, take_send};
-ghost use Rattle.conn_core.specs.declared.entries.Event.TheVariants as events;
-ghost use Rattle.script_replay.specs.Replays.{after_call, after_command, answer_text, raw, command_text, submit_text};
+ghost use Rattle.script_replay.specs.Replays.{after_call, after_command, answer_text, command_text};
 ghost use Rattle.script_replay.specs.ReplyTexts.{spelled, spelled_line};
-ghost use Rattle.script_replay.specs.Timed.{HasTimeout, IsInRanges};
+ghost use Rattle.script_replay.specs.Timed.{HasTimeout, IsInRanges, IsLegal, IsLegalIfAny};
 ghost use Rattle.script_lines.specs.declared.commands.Call.TheVariants as calls;
-ghost use Rattle.wire_frames.specs.RawFrames.{raw_meaning};
 
 use crate::replies::Reply;
 use conn_core::{AskRefusal, ConnState, FrameRefusal, SubmitRefusal};
@@ -23,14 +19,21 @@ type Conn = ConnState<RawWire>;
 
 fn answer_ask(conn: &mut Conn, caller: u32, now: u64) -> Result<Reply, AllocError>
     ensures { MatchResult result
-        (λ reply. (reply ≡ Reply.Asked (answer_of (ask_lease conn.old.key.settings (table_in raw conn.old) caller now)))
-        × (conn.new ≡ state_after raw conn.old caller (events.AskLease now)))
+        (λ reply. (spelled reply ≡ answer_text conn.old (calls.AskLease caller now))
+        × (conn.new ≡ after_call conn.old (calls.AskLease caller now)))
         (λ _. conn.new ≡ conn.old) }
 {
     match conn.ask_lease(caller, now) {
         Err(AskRefusal::NoMemory) => Err(AllocError),
         answer => Ok(Reply::Asked(answer)),
     }
+}
+
+fn answer_poll(conn: &Conn, caller: u32, lease: u64) -> Reply
+    requires { IsLegal conn.now }
+    ensures { spelled result ≡ answer_text conn.now (calls.PollLease caller lease) }
+{
+    Reply::Polled(conn.poll_lease(caller, lease))
 }
 
 fn answer_submit(
@@ -43,7 +46,7 @@ fn answer_submit(
 ) -> Result<Reply, AllocError>
     requires { (1 ≤ timeout_ms) × (timeout_ms ≤ timeout_limit) }
     ensures { MatchResult result
-        (λ reply. (spelled reply ≡ submit_text conn.old caller lease now timeout_ms payload)
+        (λ reply. (spelled reply ≡ answer_text conn.old (calls.Submit caller lease now timeout_ms payload))
         × (conn.new ≡ after_call conn.old (calls.Submit caller lease now timeout_ms payload)))
         (λ _. conn.new ≡ conn.old) }
 {
@@ -57,17 +60,10 @@ fn answer_submit(
     }
 }
 
-fn answer_send(conn: &mut Conn) -> Reply
-    ensures reply { result ≡ Reply.Sent (answer_of (take_send conn.old.key.settings (table_in raw conn.old))) }
-    ensures conn { conn.new ≡ state_after raw conn.old 0 events.TakeSend }
-{
-    Reply::Sent(conn.take_send(0))
-}
-
 fn answer_frame(conn: &mut Conn, bytes: ByteList) -> Result<Reply, AllocError>
     ensures { MatchResult result
-        (λ reply. (reply ≡ Reply.Received (answer_of (apply_frame raw_meaning (table_in raw conn.old) bytes)))
-        × (conn.new ≡ state_after raw conn.old 0 (events.Frame bytes)))
+        (λ reply. (spelled reply ≡ answer_text conn.old (calls.Frame bytes))
+        × (conn.new ≡ after_call conn.old (calls.Frame bytes)))
         (λ _. conn.new ≡ conn.old) }
 {
     match conn.apply_frame(0, bytes) {
@@ -76,41 +72,33 @@ fn answer_frame(conn: &mut Conn, bytes: ByteList) -> Result<Reply, AllocError>
     }
 }
 
-fn answer_cancel(conn: &mut Conn, caller: u32, id: u64) -> Reply
-    ensures reply { result ≡ Reply.Cancelled (answer_of (cancel (table_in raw conn.old) caller id)) }
-    ensures conn { conn.new ≡ state_after raw conn.old caller (events.Cancel id) }
-{
-    Reply::Cancelled(conn.cancel(caller, id))
-}
-
-fn answer_collect(conn: &mut Conn, caller: u32, id: u64) -> Reply
-    ensures reply { result ≡ Reply.Collected (answer_of (collect (table_in raw conn.old) caller id)) }
-    ensures conn { conn.new ≡ state_after raw conn.old caller (events.Collect id) }
-{
-    Reply::Collected(conn.collect(caller, id))
-}
-
-/// Makes a call on a connection. Want of memory leaves the connection as it was.
+/// Makes a call on a connection: a row for each command. Want of memory leaves the connection as it was.
 fn answer_call(conn: &mut Conn, call: Call) -> Result<Reply, AllocError>
-    requires { HasTimeout call }
+    requires timeout { HasTimeout call }
+    requires legal { IsLegal conn.old }
     ensures { MatchResult result
         (λ reply. (spelled reply ≡ answer_text conn.old call) × (conn.new ≡ after_call conn.old call))
         (λ _. conn.new ≡ conn.old) }
 {
-    match call {
-        Call::AskLease { caller, now } => answer_ask(conn, caller, now),
+    let reply = match call {
+        Call::AskLease { caller, now } => answer_ask(conn, caller, now)?,
+        Call::PollLease { caller, lease } => answer_poll(conn, caller, lease),
+        Call::Release { caller, lease, now } => Reply::Released(conn.release(caller, lease, now)),
         Call::Submit {
             caller,
             lease,
             now,
             timeout_ms,
             payload,
-        } => answer_submit(conn, caller, lease, now, timeout_ms, payload),
-        Call::TakeSend => Ok(answer_send(conn)),
-        Call::Frame { bytes } => answer_frame(conn, bytes),
-        Call::Cancel { caller, id } => Ok(answer_cancel(conn, caller, id)),
-        Call::Collect { caller, id } => Ok(answer_collect(conn, caller, id)),
-    }
+        } => answer_submit(conn, caller, lease, now, timeout_ms, payload)?,
+        Call::TakeSend => Reply::Sent(conn.take_send(0)),
+        Call::Frame { bytes } => answer_frame(conn, bytes)?,
+        Call::Cancel { caller, id } => Reply::Cancelled(conn.cancel(caller, id)),
+        Call::Collect { caller, id } => Reply::Collected(conn.collect(caller, id)),
+        Call::Tick { now } => Reply::Ticks(conn.tick(0, now)),
+        Call::Shutdown { caller } => Reply::Stopped(conn.shutdown(caller)),
+    };
+    Ok(reply)
 }
 
 /// Runs a command, which makes the connection or is a call on it, and gives the reply, if it has one. Want of memory leaves
@@ -120,7 +108,8 @@ pub(crate) fn run_command(
     conn: &mut Option<Conn>,
     command: Command,
 ) -> Result<Option<Reply>, AllocError>
-    requires { IsInRanges command }
+    requires ranges { IsInRanges command }
+    requires legal { IsLegalIfAny conn.old }
     ensures { MatchResult result
         (λ reply. (spelled_line reply ≡ command_text conn.old command) × (conn.new ≡ after_command conn.old command))
         (λ _. conn.new ≡ conn.old) }

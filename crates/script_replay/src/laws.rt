@@ -1,19 +1,20 @@
 ghost use Rattle.std.specs.Prelude.{◌≡◌, ◌≤◌, ◌-◌, ◌++◌, ℕ, List, length, take, slice_get, codes, Some, None};
 ghost use Rattle.std.specs.List.{AllByRecursion, flat_map};
 ghost use Rattle.answer_texts.specs.Lines.{IsWordLine};
-ghost use Rattle.conn_core.specs.States.{State};
+ghost use Rattle.conn_core.specs.Journals.{Legal};
+ghost use Rattle.conn_core.specs.States.{State, connection_of};
 ghost use Rattle.script_lines.specs.Scripts.{IsLine};
 ghost use Rattle.script_lines.specs.declared.commands.Command.{Command};
-ghost use Rattle.script_replay.specs.Replays.{IsUnworn, Leads, Script, answers_by};
+ghost use Rattle.script_replay.specs.Replays.{Leads, Script, answers_by, raw};
 ghost use Rattle.script_replay.specs.declared.replays.ScriptEnd.{ScriptEnd};
 ghost use Rattle.script_replay.specs.declared.replays.ScriptEnd.TheVariants.{Answered, Refused};
 ghost use Rattle.wire_frames.specs.declared.raw.RawWire.{RawWire};
 
-/// A script that was answered up to some line has come to an open connection, whose journal has so many entries, is legal
-/// and is below its limit.
-pub fn stays_open()
+/// A script that was answered up to some line behind its first has come to a connection, whose journal has so many entries and
+/// is legal.
+pub fn keeps_a_legal_journal()
     ensures { (lines : List (List ℕ)) (text : List ℕ) (next entries : ℕ) → Script lines text (Answered next entries) → 2 ≤ next
-        → (state : State RawWire) × IsUnworn next state × (entries ≡ length state.journal)
+        → (state : State RawWire) × Legal (connection_of raw state.key) state.journal × (entries ≡ length state.journal)
         × Leads (record { next = 1; conn = None }) lines (record { next = next; conn = Some state }) }
 {}
 

@@ -9,7 +9,7 @@ mod replies;
 mod tests;
 
 pub use laws::{
-    answered_line_by_line, fronts_are_answered, one_script, refused_behind_answered, some_script,
-    stays_open,
+    answered_line_by_line, fronts_are_answered, keeps_a_legal_journal, one_script,
+    refused_behind_answered, some_script,
 };
 pub use replays::{Replay, ScriptEnd};

@@ -1,9 +1,9 @@
-ghost use Rattle.std.specs.Prelude.{◌≡◌, ◌⊎◌, ◌++◌, None, Err, OnOk, MatchOption, MatchResult};
-ghost use Rattle.script_lines.specs.Scripts.{IsAt, IsLine};
+ghost use Rattle.std.specs.Prelude.{◌≡◌, ◌⊎◌, ◌++◌, None, Err, OnOk, MatchResult};
+ghost use Rattle.script_lines.specs.Scripts.{IsLine};
 ghost use Rattle.script_lines.specs.declared.commands.Command.{Command};
-ghost use Rattle.script_replay.specs.Replays.{IsUnworn, after_line, entries, command_text};
+ghost use Rattle.script_replay.specs.Replays.{after_line, command_text, entries, in_64_bits};
 ghost use Rattle.script_replay.specs.ReplyTexts.{spelled_line};
-ghost use Rattle.script_replay.specs.Timed.{IsInRanges};
+ghost use Rattle.script_replay.specs.Timed.{IsInRanges, IsLegalIfAny};
 
 use crate::calls::run_command;
 use crate::replies::{Reply, add_line};
@@ -21,8 +21,8 @@ pub enum ScriptEnd {
     Refused { line: u64 },
 }
 
-/// A script that is run line by line: the number of its next line, from 1, and the connection that its first line
-/// makes.
+/// A script that is run line by line: the number of its next line, from 1, and the connection that its first line makes. The
+/// number stands still at the end of 64 bits.
 #[derive(Drop)]
 pub struct Replay {
     alloc: Global,
@@ -31,14 +31,14 @@ pub struct Replay {
 }
 
 impl Model for Replay {
-    ghost use Rattle.std.specs.Prelude.{◌≡◌, MatchOption};
-    ghost use Rattle.script_replay.specs.Replays.{IsUnworn, Position};
+    ghost use Rattle.script_replay.specs.Replays.{Position};
+    ghost use Rattle.script_replay.specs.Timed.{IsLegalIfAny};
 
     ghost Value = { Position };
 
     ghost view = { λ r. record { next = r.next; conn = r.conn } };
 
-    ghost invariant = { λ r. MatchOption r.conn (r.next ≡ 1) (λ state. IsUnworn r.next state) };
+    ghost invariant = { λ r. IsLegalIfAny r.conn };
 }
 
 impl Replay {
@@ -60,11 +60,10 @@ impl Replay {
         self.next
     }
 
-    /// How many entries the connection's journal has, 0 where there is no connection yet. The journal is legal and below
-    /// its limit, and the connection is open.
+    /// How many entries the connection's journal has, which is legal; 0 where there is no connection yet.
     pub fn entries(&self) -> u64
         ensures entries { result ≡ entries self.now.conn }
-        ensures unworn { MatchOption self.now.conn (self.now.next ≡ 1) (λ state. IsUnworn self.now.next state) }
+        ensures legal { IsLegalIfAny self.now.conn }
     {
         match &self.conn {
             Some(conn) => conn.journal().len() as u64,
@@ -78,11 +77,11 @@ impl Replay {
     pub fn take_line(&mut self, line: &[u8], text: &mut Vec<u8>) -> Result<(), LineFault>
         ensures answered { OnOk result ((command : Command) × IsLine self.old.next line.now command
             × (text.new.items ≡ text.old.items ++ command_text self.old.conn command)
-            × (self.new ≡ after_line self.old command)) }
+            × (self.new ≡ in_64_bits (after_line self.old command))) }
         ensures refused { result ≡ Err LineFault.Refused → ((command : Command) → IsLine self.old.next line.now command → ⊥)
             × (text.new.items ≡ text.old.items) × (self.new ≡ self.old) }
         ensures no_memory { result ≡ Err LineFault.NoMemory → (text.new.items ≡ text.old.items)
-            × ((self.new ≡ self.old) ⊎ ((command : Command) × IsLine self.old.next line.now command × (self.new ≡ after_line self.old command))) }
+            × ((self.new ≡ self.old) ⊎ ((command : Command) × IsLine self.old.next line.now command × (self.new ≡ in_64_bits (after_line self.old command)))) }
     {
         let command = read_command(self.alloc, self.next, line)?;
         let reply = self.run(command)?;
@@ -92,14 +91,13 @@ impl Replay {
 
     /// Runs a command and counts its line, and gives the reply, if it has one. Want of memory changes nothing.
     fn run(&mut self, command: Command) -> Result<Option<Reply>, AllocError>
-        requires ranges { IsInRanges command }
-        requires place { IsAt self.old.next command }
+        requires { IsInRanges command }
         ensures { MatchResult result
-            (λ reply. (spelled_line reply ≡ command_text self.old.conn command) × (self.new ≡ after_line self.old command))
+            (λ reply. (spelled_line reply ≡ command_text self.old.conn command) × (self.new ≡ in_64_bits (after_line self.old command)))
             (λ _. self.new ≡ self.old) }
     {
         let reply = run_command(self.alloc, &mut self.conn, command)?;
-        self.next += 1;
+        self.next = self.next.saturating_add(1);
         Ok(reply)
     }
 }

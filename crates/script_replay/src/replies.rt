@@ -3,25 +3,30 @@ ghost use Rattle.node_tree.specs.Appends.{Appends, AppendsOrKeeps};
 ghost use Rattle.script_replay.specs.ReplyTexts.{spelled, spelled_line};
 
 use answer_texts::{
-    add_asked, add_cancelled, add_collected, add_received, add_sent, add_submitted,
+    add_asked, add_cancelled, add_collected, add_polled, add_received, add_released, add_sent,
+    add_stopped, add_submitted, add_ticked,
 };
 use conn_core::{
-    Accepted, AskRefusal, CancelRefusal, FrameAnswer, FrameRefusal, LeaseAnswer, SendRefusal,
-    Sending, SubmitRefusal, TakeRefusal,
+    Accepted, AskRefusal, CancelRefusal, FrameAnswer, FrameRefusal, LeaseAnswer, LeaseRefusal,
+    LeaseState, SendRefusal, Sending, SubmitRefusal, TakeRefusal, Ticked,
 };
 use std::alloc::AllocError;
-use wire_frames::Outcome;
+use wire_frames::{Outcome, Reason};
 
 /// What a call of a script came to, before it is spelled.
 #[derive(Drop)]
 pub(crate) enum Reply {
     Asked(Result<LeaseAnswer, AskRefusal>),
+    Polled(Result<LeaseState, LeaseRefusal>),
+    Released(Result<(), LeaseRefusal>),
     NotAdmitted,
     Submitted(Result<Accepted, SubmitRefusal>),
     Sent(Result<Sending, SendRefusal>),
     Received(Result<FrameAnswer, FrameRefusal>),
     Cancelled(Result<(), CancelRefusal>),
     Collected(Result<Outcome, TakeRefusal>),
+    Ticks(Ticked),
+    Stopped(Result<(), Reason>),
 }
 
 fn add_text(text: &mut Vec<u8>, reply: &Reply) -> Result<(), AllocError>
@@ -29,12 +34,16 @@ fn add_text(text: &mut Vec<u8>, reply: &Reply) -> Result<(), AllocError>
 {
     match reply {
         Reply::Asked(answer) => add_asked(text, answer),
+        Reply::Polled(answer) => add_polled(text, answer),
+        Reply::Released(answer) => add_released(text, answer),
         Reply::NotAdmitted => text.extend_from_slice(b"not admitted"),
         Reply::Submitted(answer) => add_submitted(text, answer),
         Reply::Sent(answer) => add_sent(text, answer),
         Reply::Received(answer) => add_received(text, answer),
         Reply::Cancelled(answer) => add_cancelled(text, answer),
         Reply::Collected(answer) => add_collected(text, answer),
+        Reply::Ticks(ticked) => add_ticked(text, *ticked),
+        Reply::Stopped(answer) => add_stopped(text, answer),
     }
 }
 

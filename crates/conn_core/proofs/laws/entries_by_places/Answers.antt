@@ -1,5 +1,5 @@
-use Rattle.conn_core.proofs.EntryLemmas.{legal_entries}
+use Rattle.conn_core.proofs.EntryLemmas.{entry_law}
 use Rattle.conn_core.proofs.laws.entries_by_places.Goals as goal
 
 pub returns : goal.returns
-returns c = legal_entries
+returns c = entry_law

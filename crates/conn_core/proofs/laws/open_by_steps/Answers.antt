@@ -1,4 +1,4 @@
-use Rattle.conn_core.proofs.FollowLemmas.{step_open}
+use Rattle.conn_core.proofs.TurnTables.{step_open}
 use Rattle.conn_core.proofs.laws.open_by_steps.Goals as goal
 
 pub returns : goal.returns

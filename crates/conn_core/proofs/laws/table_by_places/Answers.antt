@@ -1,5 +1,5 @@
-use Rattle.conn_core.proofs.TableLemmas.{legal_law}
+use Rattle.conn_core.proofs.StepLaws.{table_law}
 use Rattle.conn_core.proofs.laws.table_by_places.Goals as goal
 
 pub returns : goal.returns
-returns c = legal_law
+returns c = table_law

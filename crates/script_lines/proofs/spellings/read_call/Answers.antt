@@ -4,4 +4,4 @@ use Rattle.script_lines.proofs.spellings.read_call.Goals as goal
 
 pub returns-in_default : goal.returns-in_default
 returns-in_default c =
-    no_call _ _ (λ e. grind arith) (λ e. grind arith) (λ e. grind arith) (λ e. grind arith) (λ e. grind arith) (λ e. grind arith)
+    no_call _ _ (λ e. grind arith) (λ e. grind arith) (λ e. grind arith) (λ e. grind arith) (λ e. grind arith) (λ e. grind arith) (λ e. grind arith) (λ e. grind arith) (λ e. grind arith) (λ e. grind arith)

@@ -1,0 +1,3 @@
+pub mod RowEffects
+pub mod RowsKept
+pub mod RowsThroughout

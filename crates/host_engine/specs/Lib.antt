@@ -1,0 +1,10 @@
+pub mod Endings
+pub mod FirstForm
+pub mod Lines
+pub mod Listing
+pub mod Preparing
+pub mod Runs
+pub mod Statuses
+pub mod Texts
+pub mod Told
+pub mod Tool

@@ -1,8 +1,0 @@
-use Rattle.plchost.proofs.SomeSaid.{said_alone, some_said as said_somehow}
-use Rattle.plchost.proofs.tool.some_said.Goals as goal
-
-pub returns-clause-left : goal.returns-clause-left
-returns-clause-left c = said_somehow
-
-pub returns-clause-alone : goal.returns-clause-alone
-returns-clause-alone c = said_alone
