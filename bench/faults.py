@@ -36,10 +36,16 @@ CASES = [
     ("decode, 30,001 bytes", ["decode", "p", "P"], bytes(i % 251 for i in range(30001))),
     ("decode, a text outside the form", ["decode", "bad", "P"], b""),
     ("decode, a type that isn't there", ["decode", "p", "Q"], b""),
+    ("print, two fields", ["print", "p"], b""),
+    ("print, the description of Modbus", ["print", "modbus.mspec"], b""),
+    ("print, a text that leaves the language", ["print", "wrong"], b""),
     ("replay, one request", ["replay"], rounds(1, 1).encode()),
     ("replay, a cancelled request and a refused line",
      ["replay"], (HEAD + "submit 1 1 0 1000 AA\ncancel 1 1\ncollect 1 1\nsends\n").encode()),
-    ("replay, a missing line", ["replay"], b"table 16 8 1 64 60000 60000\n"),
+    ("replay, a missing line", ["replay"], b""),
+    ("replay, waiters, time and a shutdown", ["replay"], (
+        "table 16 8 1 64 100 50\nask 1 0\nask 2 10\nsubmit 1 1 10 1000 AA\nsubmit 1 1 10 20 AA\nsend\ntick 30\nrelease 1 1 40\n"
+        "poll 2 2\nsubmit 2 2 40 1000 AA\nshutdown 2\ncollect 2 3\n").encode()),
     ("replay, 15 requests", ["replay"], rounds(15, 1).encode()),
     ("replay, 15 requests of 4,092 bytes", ["replay"], rounds(15, 4092).encode()),
 ]
@@ -84,7 +90,15 @@ def main():
         source = os.path.join(TOP, "bench", "faults.c")
         library = os.path.join(folder, "faults.so")
         subprocess.run(["cc", "-O2", "-shared", "-fPIC", "-o", library, source], check=True)
-        for name, text in [("p", "[type P [simple uint 8 a] [simple uint 16 b]]"), ("bad", "[type P [simple uint 24 a]]")]:
+        with open(os.path.join(TOP, "checks", "modbus.mspec")) as text:
+            modbus = text.read()
+        texts = [
+            ("p", "[type P [simple uint 8 a] [simple uint 16 b]]"),
+            ("bad", "[type P [simple uint 24 a]]"),
+            ("wrong", "[type P [simple uint 8 a] [manual uint 8 b]]"),
+            ("modbus.mspec", modbus),
+        ]
+        for name, text in texts:
             with open(os.path.join(folder, name), "w") as file:
                 file.write(text)
         for name, words, given in CASES:

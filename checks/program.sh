@@ -13,6 +13,7 @@ case $program in
 *) program=$PWD/$program ;;
 esac
 data=$PWD/crates/plchost/data
+checks=$PWD/checks
 if [ ! -x "$program" ]; then
     echo "there is no program at $program"
     echo "0 passed, 1 failed"
@@ -77,6 +78,7 @@ printf '[type P [simple uint 8 a] [simple uint 16 b]]' >record
 printf '[type P [simple uint 8 a]]' >byte
 printf '[type P [simple uint 12 a]]' >other_form
 printf '\001\000\002' >one
+printf '\001\002' >two
 printf '\001\000\002\377\377\377\001' >three
 : >empty
 cat >script <<'END'
@@ -115,6 +117,9 @@ refused 'too few words behind a file' decode record
 refused 'too many words' decode record P P
 refused 'too many words behind replay' replay script
 refused 'another command' frob
+refused 'print without a file' print
+refused 'print of two files' print record record
+refused 'an option to print' print -record
 refused 'a command in capitals' Decode record P
 refused 'an option' --help
 refused 'an option before a command' --version replay
@@ -125,20 +130,97 @@ refused 'an option as a file' decode -record P
 refused 'a word that is not text' decode record "$(printf 'P\377')"
 refused 'a command that is not text' "$(printf 'replay\377')"
 
+# ---- descriptions
+
+printf "[type V [simple uint 8 a][virtual uint 32 v 'a+a*2']]\n" >sums
+printf '[type W [simple uint 8 a] [manual uint 8 b]]\n' >left_out
+printf '// a record\n[type P [simple uint 0x10 a]] /* of one field */' >commented
+printf '[type P [simple uint 8 a]' >open_type
+printf '[type P /* x' >open_comment
+printf '] $' >stray
+runs 'a printed description' 0 '[type P\n  [simple uint 8 a]\n  [simple uint 16 b]\n]\n' one print record
+runs 'printed expressions' 0 "[type V\n  [simple uint 8 a]\n  [virtual uint 32 v 'a + (a * 2)']\n]\n" one print sums
+runs 'a printed description of nothing' 0 '' one print empty
+runs 'a word that is left out' 1 'description refused 1:28 LeftOut\n' one print left_out
+runs 'the end inside a definition' 1 'description refused 1:26 EndOfText\n' one print open_type
+runs 'an open comment' 1 'description refused 1:9 OpenComment\n' one print open_comment
+runs 'a stray byte before a fault of the grammar' 1 'description refused 1:3 Character\n' one print stray
+runs 'a description without a tree, to decode' 1 'description refused 1:26 EndOfText\n' one decode open_type P
+runs 'a comment and another width in the first form' 0 'a = 258\n\n' two decode commented P
+runs 'a file to print that there is not' 3 'file fault\n' one print nothing
+
+# printed PROTOCOL: what is printed of the protocol's description is printed as itself.
+printed() {
+    case_is "the description of $1, printed" 0 ''
+    plchost print "$checks/$1.mspec" >"printed_$1" 2>complaint && plchost print "printed_$1" >got 2>>complaint
+    status=$?
+    cp "printed_$1" wanted
+    [ -s wanted ] || status=1
+    judge "$status"
+}
+printed modbus
+printed s7
+
 # ---- scripts
 
 printf 'table 2 8 1 64 60000 60000\n' >one_line
 printf 'table 2 8 1 64 60000 60000\nask 1 0\nsend\nsends\nsend\n' >refused_line
 runs 'an empty script' 10 'line refused 1\n' empty replay
-runs 'a script of one line' 10 'line refused 2\n' one_line replay
-runs 'a line outside the form' 10 'granted 1\nnothing\nline refused 4\n' refused_line replay
+runs 'a script of one line' 0 'entries 0\n' one_line replay
+runs 'a line that is none' 10 'granted 1\nnothing\nline refused 4\n' refused_line replay
+
+# What docs/HOST.md shows.
+cat >waiter <<'END'
+table 2 8 1 64 100 50
+ask 1 0
+ask 2 10
+poll 2 2
+release 1 1 20
+poll 2 2
+tick 119
+tick 120
+END
+cat >lease_ends <<'END'
+table 2 8 1 64 100 50
+ask 1 0
+submit 1 1 0 1000 AA
+send
+tick 100
+frame 00050001BB
+collect 1 1
+END
+cat >expires <<'END'
+table 2 8 1 64 60000 60000
+ask 1 0
+submit 1 1 0 1000 AA
+send
+tick 999
+tick 1000
+frame 00050001BB
+collect 1 1
+END
+cat >stops <<'END'
+table 2 8 1 64 60000 60000
+ask 1 0
+submit 1 1 0 1000 AA
+shutdown 1
+shutdown 1
+collect 1 1
+END
+{ echo 'table 2 8 1 64 60000 60000' && awk 'BEGIN { for (i = 0; i < 65; i++) print "ask 1 0" }' && echo 'poll 1 1'; } >worn
+waits=$(awk 'BEGIN { for (i = 2; i <= 64; i++) printf "waiting %d %d\\n", i, i - 2 }')
+runs 'a waiter that is granted' 0 'granted 1\nwaiting 2 0\nwaiting 0\nreleased\nheld\nticked 0 0 0\nticked 0 1 0\nentries 4\n' waiter replay
+runs 'a lease that ends with a live request' 0 'granted 1\nstarted 1 1\nsent 1 00050001aa\nticked 1 1 0\nlate 1\nlease gone\nentries 6\n' lease_ends replay
+runs 'a request that expires' 0 'granted 1\nstarted 1 1\nsent 1 00050001aa\nticked 0 0 0\nticked 1 0 0\nlate 1\nexpired\nentries 6\n' expires replay
+runs 'a worn journal' 0 "granted 1\n${waits}closed worn\nclosed worn\nentries 65\n" worn replay
+runs 'a shutdown' 0 'granted 1\nstarted 1 1\nstopping\nclosed asked\nlost asked\nentries 4\n' stops replay
 
 # ---- sizes
 
 { cat byte && spaces 1048550; } >longest
 { cat byte && spaces 1048551; } >too_long
 runs 'a description of 1,048,576 bytes' 0 'a = 1\n\na = 0\n\na = 2\n\n' one decode longest P
-runs 'a description of 1,048,577 bytes' 1 'description refused 1:1 NotBuilt\n' one decode too_long P
+runs 'a description of 1,048,577 bytes' 1 'description refused 1:1 TextTooLong\n' one decode too_long P
 spaces 16777216 >input_limit
 spaces 16777217 >past_limit
 runs 'an input of 16,777,216 bytes' 10 'line refused 1\n' input_limit replay
@@ -171,9 +253,9 @@ wait
 # ---- an output that fails
 
 if [ ! -c /dev/full ]; then
-    echo "there is no full device here: its three cases are left out"
+    echo "there is no full device here: its four cases are left out"
 else
-    for words in 'decode record P' 'replay' 'frob'; do
+    for words in 'decode record P' 'print record' 'replay' 'frob'; do
         case_is "a full device, $words" 5 ''
         plchost $words <script >/dev/full 2>complaint
         judge $?
