@@ -238,19 +238,19 @@ submit_effect c t u actor lease ask timeout now answer e =
 -- ---- Collect
 
 -- the row that a Collect takes out
-record Out (rows left : List (Row Handed Outcome)) (id : ℕ) : Type 0 where
-  row : Row Handed Outcome
-  before : List (Row Handed Outcome)
-  after : List (Row Handed Outcome)
-  split : rows ≡ before ++ row ∷ after
-  leaves : left ≡ before ++ after
-  same : row.id ≡ id
-  only_one : IsOnly before after row
+pub record Out (rows left : List (Row Handed Outcome)) (id : ℕ) : Type 0 where
+  pub row : Row Handed Outcome
+  pub before : List (Row Handed Outcome)
+  pub after : List (Row Handed Outcome)
+  pub split : rows ≡ before ++ row ∷ after
+  pub leaves : left ≡ before ++ after
+  pub same : row.id ≡ id
+  pub only_one : IsOnly before after row
 
 goes_out : (ended own : Bool) → ended ≡ true → own ≡ true → not (ended && own) ≡ false
 goes_out ended own one two = rw (one, two) refl
 
-out_row : (t : Table) (actor id : ℕ) (given : Outcome) → IsRising 0 t.requests.drawn (ids_of t.requests.rows) → (row : Row Handed Outcome) → find (is_row_of actor id) t.requests.rows ≡ Some row → row.phase ≡ Ended given → Out t.requests.rows (filter (stays actor id) t.requests.rows) id
+pub out_row : (t : Table) (actor id : ℕ) (given : Outcome) → IsRising 0 t.requests.drawn (ids_of t.requests.rows) → (row : Row Handed Outcome) → find (is_row_of actor id) t.requests.rows ≡ Some row → row.phase ≡ Ended given → Out t.requests.rows (filter (stays actor id) t.requests.rows) id
 out_row t actor id given rising row found ended =
     let first = (found_at (is_row_of actor id) t.requests.rows row found).1 in
     let passes = and_parts (row.id == id) (row.owner == actor) first.passes in
