@@ -1,0 +1,13 @@
+pub mod CountLaws
+pub mod HostLaws
+pub mod Languages
+pub mod NumberLaws
+pub mod OneFault
+pub mod PrintLaws
+pub mod Splits
+pub mod StageLaws
+pub mod TableLaws
+pub mod TagLaws
+pub mod UrlLaws
+pub mod WholeUrls
+pub mod WordLaws
