@@ -3,9 +3,12 @@ mod DigitLaws
 mod MoreBits
 mod NameLaws
 mod OneStream
+mod RangeFine
 mod RangeInside
+mod RangeKept
 mod RangeKnown
 mod RangeLaw
 mod RangeLemmas
 mod RangeSound
+mod RangeWhole
 mod WorkedProofs

@@ -338,7 +338,7 @@ holds_at zero d scope sight asked e r n f v o = cons_none f
 holds_at (suc depth) d scope sight asked e r n f v o =
     shape_hold d scope (out-Expr e).place (out-Shape (out-Expr e).shape) (entry_bits d) (judged_at depth d scope) (worth_at depth d (entry_bits d)) sight
     (holds_at depth d scope sight asked)
-    (λ is q m g w x. asked (suc depth) e q m is w x) r n f v o
+    (λ is q m g w x. asked (suc depth) e q m is g w x) r n f v o
 
 -- what was accepted has no fault
 pub accepted : (place : Place) (found meant : Meant) (all : Option Meant) (faults : List Fault) → answer place all faults ≡ Ok meant → (faults ≡ []) × (all ≡ Some meant)

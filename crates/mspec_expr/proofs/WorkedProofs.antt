@@ -1,11 +1,15 @@
 -- The worked examples: each computes.
 use Rattle.std.specs.Prelude.{refl}
 use Rattle.mspec_expr.specs.Examples.{trees}
-use Rattle.mspec_expr.specs.Worked.{Expressions, Optionals, Numbers, Switches, CountArrays, LengthArrays, Arguments, Checksums, Paddings, Lengths, Depths, Casts, Refusals}
+use Rattle.mspec_expr.specs.Worked.{Expressions, Greatest, Optionals, Numbers, Switches, CountArrays, LengthArrays, Arguments, Checksums, Paddings, Lengths, Depths, Casts, Refusals}
 
 pub expressions : Expressions
 unfolding trees
 expressions = (refl, refl)
+
+pub greatest : Greatest
+unfolding trees
+greatest = (refl, refl)
 
 pub optionals : Optionals
 unfolding trees

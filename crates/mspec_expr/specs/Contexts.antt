@@ -18,7 +18,7 @@ use Rattle.mspec_expr.specs.declared.kinds.Meant.{Meant}
 use Rattle.mspec_expr.specs.Counted.{Counted, done, fails, faulted, required, ◌>>=◌, ◌>>◌}
 use Rattle.mspec_expr.specs.Kinds.{width}
 use Rattle.mspec_expr.specs.Values.{Seen, Sight}
-use Rattle.mspec_expr.specs.Sizes.{node_limit, bit_limit, value}
+use Rattle.mspec_expr.specs.Sizes.{node_limit, bit_limit, kept_value}
 
 -- why bits are no value: they end too early, or those from this bit on aren't of the type
 pub data Fault : Type 0 where
@@ -108,8 +108,9 @@ read_why fault.NullAccess = NullAccess
 read_why fault.CastFails = CastFails
 read_why fault.EnumAttr = EnumAttr
 
+-- a number that leaves the widest range, on the way too, is the fault of an entry that isn't there
 abbrev pub evaluated : Description → Expr → Sight → Context → Outcome ℤ
-evaluated d e seen context = faulted (λ f. Bad context.position (read_why f)) (value d e seen)
+evaluated d e seen context = faulted (λ f. Bad context.position (read_why f)) (kept_value d e seen)
 
 -- ---- numbers
 

@@ -14,7 +14,7 @@ use Rattle.mspec_tree.specs.declared.defs.Description.{Description}
 use Rattle.mspec_expr.specs.Counted.{Counted, fails, faulted, required}
 use Rattle.mspec_expr.specs.Kinds.{width}
 use Rattle.mspec_expr.specs.Values.{NodeLayer, Seen, Sight}
-use Rattle.mspec_expr.specs.Sizes.{value}
+use Rattle.mspec_expr.specs.Sizes.{kept_value}
 use Rattle.mspec_expr.specs.Contexts.{number_order, whole_bytes}
 
 -- why a node isn't written: the entry with this number in preorder
@@ -106,8 +106,9 @@ sight_with_sums desk = record (sight desk) {
   xor = fold bit_xor 0 (bytes_written desk);
 }
 
+-- a number that leaves the widest range, on the way too, is the fault of an entry that isn't there
 abbrev pub evaluated : Description → Expr → Sight → Desk → Writing ℤ
-evaluated d e seen desk = faulted (λ f. At desk.entry (Eval f)) (value d e seen)
+evaluated d e seen desk = faulted (λ f. At desk.entry (Eval f)) (kept_value d e seen)
 
 -- ---- numbers
 

@@ -8,7 +8,7 @@ use Rattle.mspec_tree.specs.declared.words.Lit.TheVariants.{Num, Flag}
 use Rattle.mspec_tree.specs.declared.words.Key.{Key}
 use Rattle.mspec_tree.specs.declared.words.Key.TheVariants.{Lit as LitKey}
 use Rattle.mspec_tree.specs.declared.words.Op.{Op}
-use Rattle.mspec_tree.specs.declared.words.Op.TheVariants.{Add, Rem, Div, Gt, BitAnd}
+use Rattle.mspec_tree.specs.declared.words.Op.TheVariants.{Add, Sub, Rem, Div, Gt, BitAnd}
 use Rattle.mspec_tree.specs.declared.words.Place.{Place}
 use Rattle.mspec_tree.specs.declared.words.Simple.TheVariants.{Bit, Byte, Uint, Int}
 use Rattle.mspec_tree.specs.declared.exprs.Expr.{Expr, roll-Expr}
@@ -110,6 +110,13 @@ quotients = type_of (
     field (codes "a") (Simple (int 8))
     ∷ field (codes "q") (Virtual (int 16) (two Div (name (codes "a")) (number 4)))
     ∷ field (codes "r") (Virtual (int 16) (two Rem (name (codes "a")) (number 4)))
+    ∷ [])
+
+-- [type T [simple uint 64 a] [virtual uint 64 v 'a + 1 - 1']], which isn't accepted
+abbrev pub one_more_and_one_less : Description
+one_more_and_one_less = type_of (
+    field (codes "a") (Simple (uint 64))
+    ∷ field (codes "v") (Virtual (uint 64) (two Sub (two Add (name (codes "a")) (number 1)) (number 1)))
     ∷ [])
 
 -- [type T [simple uint 8 n] [optional uint 8 o 'n > 1'] [virtual uint 16 v 'o + 1']]

@@ -1,5 +1,5 @@
 -- What an environment must be for a scope, and what the numbers of an expression then are.
-use Rattle.std.specs.Prelude.{ℕ, ℤ, pos, ◌≡◌, ◌≤ℤ◌, Bool, true, false, List, [], ◌∷◌, Option, Some, None, Ok}
+use Rattle.std.specs.Prelude.{ℕ, ℤ, pos, ◌≡◌, ◌≤ℤ◌, Bool, true, false, List, [], ◌∷◌, Option, Some, None, IsOkAnd, IsSome, Ok}
 use Rattle.mspec_tree.specs.declared.exprs.Expr.{Expr, out-Expr}
 use Rattle.mspec_tree.specs.declared.exprs.Shape.{Shape, out-Shape}
 use Rattle.mspec_tree.specs.declared.exprs.Shape.TheOpen.{Shape-F}
@@ -13,7 +13,7 @@ use Rattle.mspec_expr.specs.declared.scopes.MeantName.{MeantName}
 use Rattle.mspec_expr.specs.declared.scopes.NodeName.{NodeName}
 use Rattle.mspec_expr.specs.Values.{Seen, Sight, worth_at, number}
 use Rattle.mspec_expr.specs.Sizes.{entry_bits}
-use Rattle.mspec_expr.specs.Ranges.{judged_at, numbers_of, range}
+use Rattle.mspec_expr.specs.Ranges.{is_kind, is_number, judged_at, numbers_of, range, range_found}
 
 -- the names of a scope with their nodes
 abbrev pub seen_in : List MeantName → List NodeName → List Seen
@@ -67,6 +67,35 @@ abbrev pub AskedFit : Description → Scope → Sight → Type 0
 AskedFit d scope sight =
     (depth : ℕ) (e : Expr) (r : Range) (n : ℤ)
     → is_asked e ≡ true
+    → (judged_at depth d scope e).faults ≡ []
     → values_of_all d (judged_at depth d scope e).meant ≡ Some r
     → (number (worth_at depth d (entry_bits d) e sight)).outcome ≡ Ok n
     → IsIn r n
+
+-- What an expression of the scope can ask for has the form of what it is: a number only where it is one.
+abbrev pub AskedFormed : Description → Scope → Sight → Type 0
+AskedFormed d scope sight =
+    (depth : ℕ) (e : Expr) (n : ℤ)
+    → is_asked e ≡ true
+    → (judged_at depth d scope e).faults ≡ []
+    → (number (worth_at depth d (entry_bits d) e sight)).outcome ≡ Ok n
+    → IsSome (values_of_all d (judged_at depth d scope e).meant)
+
+-- Every number and enum value that an expression of the scope can ask for has a range: each is of a type of 1 to 64 bits.
+abbrev pub AskedRanged : Description → Scope → Type 0
+AskedRanged d scope =
+    (depth : ℕ) (e : Expr)
+    → is_asked e ≡ true
+    → (judged_at depth d scope e).faults ≡ []
+    → is_kind is_number (judged_at depth d scope e).meant ≡ true
+    → IsSome (values_of_all d (judged_at depth d scope e).meant)
+
+-- an environment fits a scope
+pub record Fits (d : Description) (scope : Scope) (env : Env) : Type 0 where
+  pub ranged : AskedRanged d scope
+  pub formed : AskedFormed d scope (sight_in scope env)
+  pub inside : AskedFit d scope (sight_in scope env)
+
+-- a number, an enum value or a flag
+abbrev pub IsValue : Description → Scope → Expr → Type 0
+IsValue d scope e = IsOkAnd (range_found d scope e) (λ meant. IsSome (values_of d meant))

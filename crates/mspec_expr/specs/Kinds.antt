@@ -82,6 +82,10 @@ own_range simple = if is_width (width simple) then type_range simple else no_ran
 abbrev pub in_range : Range → ℤ → Bool
 in_range range number = int_le range.low number && int_le number range.high
 
+-- a number leaves these in no expression
+abbrev pub widest : Range
+widest = record { low = neg_ℤ (pos (2 ^ 63)); high = pos (2 ^ 64 - 1) }
+
 -- how many binary digits a number has, up to so many
 abbrev pub digits_to : (most number : ℕ) → ℕ
 digits_to zero number = 0

@@ -35,15 +35,12 @@ use Rattle.mspec_expr.specs.declared.kinds.Target.{Target}
 use Rattle.mspec_expr.specs.declared.kinds.Target.TheVariants.{Enum as EnumTarget}
 use Rattle.mspec_expr.specs.Kinds.{literal, layer, binary_digits, no_range, own_range, base_of, target_named, fields_of, constants_of, params_of, cases_of, entry_fields, field_meant, ref_meant}
 use Rattle.mspec_expr.specs.Values.{deepest}
+pub use Rattle.mspec_expr.specs.Kinds.{widest}
 
 -- ---- ranges of numbers
 
 abbrev pub range : ℤ → ℤ → Range
 range low high = record { low = low; high = high }
-
--- a number leaves these in no expression
-abbrev pub widest : Range
-widest = range (neg_ℤ (pos (2 ^ 63))) (pos (2 ^ 64 - 1))
 
 abbrev pub lies_in : Range → Range → Bool
 lies_in outer inner = int_le outer.low inner.low && int_le inner.high outer.high

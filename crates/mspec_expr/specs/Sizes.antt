@@ -13,8 +13,8 @@ use Rattle.mspec_tree.specs.declared.defs.Description.{Description}
 use Rattle.mspec_expr.specs.declared.kinds.ItemOf.TheVariants.{Bits, GroupOf as ItemGroups}
 use Rattle.mspec_expr.specs.declared.kinds.Meant.{Meant}
 use Rattle.mspec_expr.specs.declared.kinds.Meant.TheVariants.{Number as NumberKind, Flag as FlagKind, EnumOf, GroupOf, ListOf, Bytes, Raw}
-use Rattle.mspec_expr.specs.Kinds.{BodyLayer, layer, width, ref_width, in_range, type_range, range_width, base_of, fields_of, case_fields, field_meant, ref_meant, items_meant}
-use Rattle.mspec_expr.specs.Values.{NodeLayer, Seen, Sight, Worths, Worth, worth_by, number}
+use Rattle.mspec_expr.specs.Kinds.{BodyLayer, layer, width, ref_width, in_range, own_range, range_width, base_of, fields_of, case_fields, field_meant, ref_meant, items_meant}
+use Rattle.mspec_expr.specs.Values.{NodeLayer, Seen, Sight, Worths, Worth, deepest, kept_at, worth_by, number}
 
 -- no value has more nodes than this, and no number of a value ends past this bit
 abbrev pub node_limit : ℕ
@@ -77,7 +77,7 @@ meant_measure d measures meant node = entry_measure d measures meant node (out-N
 -- a number is of its range, and a count no greater than the greatest
 abbrev pub is_within : Description → Meant → NodeLayer → Bool
 is_within d (NumberKind range) (Node-F.Num number) = in_range range number
-is_within d (EnumOf def) (Node-F.Num number) = in_range (type_range (base_of d def)) number
+is_within d (EnumOf def) (Node-F.Num number) = in_range (own_range (base_of d def)) number
 is_within d meant (Node-F.List items) = nat_le (length items) node_limit
 is_within d meant (Node-F.Blob bytes) = nat_le (length bytes) node_limit
 is_within d meant other = true
@@ -87,7 +87,7 @@ abbrev pub padding_sight : List Seen → (last : Bool) → Sight
 padding_sight names last =
     record { names = names; position = 0; first = 0; length = 0; last = last; sum = 0; xor = 0 }
 
--- the count that a padding's expression gives, 0 where it gives none
+-- the count that a padding's expression gives, 0 where it gives none; each number on the way stays inside the widest range
 abbrev pub count_or_none : Result ℤ EvalFault → ℕ
 count_or_none (Ok (pos n)) = if nat_le n count_limit then n else 0
 count_or_none (Ok (negsuc n)) = 0
@@ -95,7 +95,7 @@ count_or_none (Err fault) = 0
 
 abbrev pub given_count : Description → (within : Bool) → List Seen → (last : Bool) → Expr → ℕ
 given_count d true names last count =
-    count_or_none (number (worth_by d (λ meant node. 0) count (padding_sight names last))).outcome
+    count_or_none (number (kept_at deepest d (λ meant node. 0) count (padding_sight names last))).outcome
 given_count d false names last count = 0
 
 -- Where a number or a count that it sees is out of its range, used or not, a padding has no numbers.
@@ -202,3 +202,10 @@ worth d = worth_by d (entry_bits d)
 -- an expression's number, a flag counting 0 or 1
 abbrev pub value : Description → Expr → Sight → Worth ℤ
 value d e sight = number (worth d e sight)
+
+-- the same where each number on the way stays inside the widest range: what readings and writings reckon with
+abbrev pub kept_worth : Description → Worths
+kept_worth d = kept_at deepest d (entry_bits d)
+
+abbrev pub kept_value : Description → Expr → Sight → Worth ℤ
+kept_value d e sight = number (kept_worth d e sight)

@@ -1,6 +1,6 @@
 -- What an expression is worth: a number, a flag, a part of a value, or why there is none. Numbers are unbounded. What isn't
 -- needed isn't asked: the other side of `&&` and `||`, the other branch of a condition.
-use Rattle.std.specs.Prelude.{ℕ, zero, suc, ℤ, pos, neg_ℤ, ◌+ℤ◌, ◌-ℤ◌, ◌*ℤ◌, ◌+◌, ◌-◌, ◌/◌, ◌^◌, ◌&&◌, Bool, true, false, not, List, [], ◌∷◌, length, Option, Some, None, slice_get, option_to_list, ◌||◌, find, bytes_eq, int_lt, int_le, int_div, int_rem, unsigned_abs, bit_and, bit_or, if◌then◌else◌}
+use Rattle.std.specs.Prelude.{ℕ, zero, suc, ℤ, pos, neg_ℤ, ◌+ℤ◌, ◌-ℤ◌, ◌*ℤ◌, ◌+◌, ◌-◌, ◌/◌, ◌^◌, ◌&&◌, Bool, true, false, not, List, [], ◌∷◌, length, Option, Some, None, slice_get, option_to_list, ◌||◌, find, bytes_eq, int_lt, int_le, int_div, int_rem, unsigned_abs, bit_and, bit_or, if◌then◌else◌, Result, Ok, Err}
 use Rattle.std.specs.Ordering.{int_eq}
 use Rattle.std.specs.List.{flat_map}
 use Rattle.node_tree.specs.Bits.{digit}
@@ -23,7 +23,7 @@ use Rattle.mspec_tree.specs.declared.defs.Description.{Description}
 use Rattle.mspec_expr.specs.declared.kinds.Meant.{Meant}
 use Rattle.mspec_expr.specs.declared.kinds.Meant.TheVariants.{GroupOf, EnumOf}
 use Rattle.mspec_expr.specs.Counted.{Counted, done, fails, counted, required, ◌>>=◌, ◌>>◌}
-use Rattle.mspec_expr.specs.Kinds.{literal, literal_node, def_named, fields_of, constants_of, params_of, cases_of, case_name, entry_fields, field_meant, ref_meant}
+use Rattle.mspec_expr.specs.Kinds.{in_range, literal, literal_node, widest, def_named, fields_of, constants_of, params_of, cases_of, case_name, entry_fields, field_meant, ref_meant}
 
 abbrev pub NodeLayer : Type 0
 NodeLayer = Node-F Node
@@ -273,3 +273,20 @@ deepest = depth_limit
 
 abbrev pub worth_by : Description → (sizes : Meant → Node → ℕ) → Worths
 worth_by d sizes = worth_at deepest d sizes
+
+-- ---- numbers that stay inside the widest range
+
+-- a thing, unless it is a number that leaves the widest range
+abbrev pub kept_if : Result ℤ EvalFault → Thing → Worth Thing
+kept_if (Ok number) thing = if in_range widest number then done thing else fails NullAccess
+kept_if (Err fault) thing = done thing
+
+abbrev pub kept : Thing → Worth Thing
+kept thing = kept_if (thing_number thing).outcome thing
+
+-- What an expression is worth where each number on the way stays inside the widest range. In a description that is accepted
+-- none leaves it, so this is the same there; elsewhere it is a number that a program can have.
+abbrev pub kept_at : (depth : ℕ) → Description → (sizes : Meant → Node → ℕ) → Worths
+kept_at zero d sizes e sight = fails NullAccess
+kept_at (suc depth) d sizes e sight =
+    counted 1 (shape_worth d sizes (kept_at depth d sizes) (out-Shape (out-Expr e).shape) sight >>= kept)

@@ -11,7 +11,7 @@ use Rattle.mspec_expr.specs.Contexts.{Fault, Short, Bad}
 use Rattle.mspec_expr.specs.Desks.{At}
 use Rattle.mspec_expr.specs.Reads.{reads}
 use Rattle.mspec_expr.specs.Writes.{writes, filled}
-use Rattle.mspec_expr.specs.Examples.{quotients, maybe_one_more, little_number, one_const, modbus, numbers_by_count, numbers_by_length, items_with_arguments, one_argument, summed, from_inside_a_byte, padded_items, own_length, endless, taken_as}
+use Rattle.mspec_expr.specs.Examples.{quotients, one_more_and_one_less, maybe_one_more, little_number, one_const, modbus, numbers_by_count, numbers_by_length, items_with_arguments, one_argument, summed, from_inside_a_byte, padded_items, own_length, endless, taken_as}
 
 -- ---- short forms
 
@@ -43,6 +43,12 @@ group entries = Group 0 entries
 abbrev pub Expressions : Type 0
 Expressions = (read quotients [] (249 ∷ []) ≡ Ok (group (below_zero 6 ∷ below_zero 0 ∷ below_zero 2 ∷ [])))
     × (read maybe_one_more [] (1 ∷ []) ≡ Err (Bad 8 NullAccess))
+
+-- a number on the way, too, stays inside -2^63 to 2^64 - 1
+abbrev pub Greatest : Type 0
+Greatest = (read one_more_and_one_less [] (255 ∷ 255 ∷ 255 ∷ 255 ∷ 255 ∷ 255 ∷ 255 ∷ 254 ∷ [])
+    ≡ Ok (group (n 18446744073709551614 ∷ n 18446744073709551614 ∷ [])))
+    × (read one_more_and_one_less [] (255 ∷ 255 ∷ 255 ∷ 255 ∷ 255 ∷ 255 ∷ 255 ∷ 255 ∷ []) ≡ Err (Bad 64 NullAccess))
 
 abbrev pub Optionals : Type 0
 Optionals = (read maybe_one_more [] (2 ∷ 3 ∷ []) ≡ Ok (group (n 2 ∷ n 3 ∷ n 4 ∷ [])))

@@ -7,15 +7,16 @@ ghost use Rattle.mspec_tree.specs.declared.exprs.Expr.{Expr};
 ghost use Rattle.mspec_tree.specs.declared.defs.Description.{Description};
 ghost use Rattle.mspec_expr.specs.declared.kinds.Range.{Range};
 ghost use Rattle.mspec_expr.specs.declared.kinds.Meant.{Meant};
+ghost use Rattle.mspec_expr.specs.declared.scopes.Env.{Env};
 ghost use Rattle.mspec_expr.specs.declared.scopes.Scope.{Scope};
 ghost use Rattle.mspec_expr.specs.Contexts.{Bad};
 ghost use Rattle.mspec_expr.specs.Reads.{reads};
 ghost use Rattle.mspec_expr.specs.Values.{Sight, worth_at};
-ghost use Rattle.mspec_expr.specs.Sizes.{value};
+ghost use Rattle.mspec_expr.specs.Sizes.{kept_value, kept_worth, value, worth};
 ghost use Rattle.mspec_expr.specs.Ranges.{range_found, lies_in, widest};
-ghost use Rattle.mspec_expr.specs.Fits.{IsIn, AskedFit, values_of};
+ghost use Rattle.mspec_expr.specs.Fits.{IsIn, AskedFit, Fits, sight_in, values_of};
 ghost use Rattle.mspec_expr.specs.Stream.{Stream, Ending};
-ghost use Rattle.mspec_expr.specs.Worked.{Expressions, Optionals, Numbers, Switches, CountArrays, LengthArrays, Arguments, Checksums, Paddings, Lengths, Depths, Casts, Refusals};
+ghost use Rattle.mspec_expr.specs.Worked.{Expressions, Greatest, Optionals, Numbers, Switches, CountArrays, LengthArrays, Arguments, Checksums, Paddings, Lengths, Depths, Casts, Refusals};
 
 /// Where nothing is wrong with an expression, its value lies in its range, wherever all that it asks for lies in its own. No
 /// such range leaves -2^63 to 2^64 - 1.
@@ -24,6 +25,15 @@ pub fn values_lie_in_ranges()
         → AskedFit d scope sight → range_found d scope e ≡ Ok meant → values_of d meant ≡ Some r
         → (value d e sight).outcome ≡ Ok n → IsIn r n }
     ensures ranges { (d : Description) (meant : Meant) (r : Range) → values_of d meant ≡ Some r → lies_in widest r ≡ true }
+{}
+
+/// Where an environment fits, no number on the way to the value of an expression in which nothing is wrong leaves -2^63 to
+/// 2^64 - 1.
+pub fn values_stay_inside()
+    ensures worths { (d : Description) (scope : Scope) (env : Env) (e : Expr) (meant : Meant) → Fits d scope env → range_found d scope e ≡ Ok meant
+        → (kept_worth d e (sight_in scope env)).outcome ≡ (worth d e (sight_in scope env)).outcome }
+    ensures values { (d : Description) (scope : Scope) (env : Env) (e : Expr) (meant : Meant) → Fits d scope env → range_found d scope e ≡ Ok meant
+        → (kept_value d e (sight_in scope env)).outcome ≡ (value d e (sight_in scope env)).outcome }
 {}
 
 /// An expression is worth the same at each depth that is enough for it, so the greatest depth of a description's expressions
@@ -53,6 +63,7 @@ pub fn one_stream()
 /// refused. `specs/Examples.antt` has their descriptions.
 pub fn worked_examples()
     ensures expressions { Expressions }
+    ensures greatest { Greatest }
     ensures optionals { Optionals }
     ensures numbers { Numbers }
     ensures switches { Switches }

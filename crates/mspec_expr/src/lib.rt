@@ -13,7 +13,10 @@ mod scopes;
 mod types;
 
 pub use kinds::{EvalRefusal, ExprWhy, Fault, ItemOf, Meant, Range, RangeFault, Target};
-pub use laws::{depth_is_enough, more_bits, one_stream, values_lie_in_ranges, worked_examples};
+pub use laws::{
+    depth_is_enough, more_bits, one_stream, values_lie_in_ranges, values_stay_inside,
+    worked_examples,
+};
 pub use names::{
     case_fields, constant_named, constants_of, def_at, def_named, fields_of, first_cases, is_named,
     meant_named, param_named, params_of,

@@ -4,6 +4,9 @@ use Rattle.mspec_expr.proofs.laws.worked_examples.Goals as goal
 pub returns-clause-expressions : goal.returns-clause-expressions
 returns-clause-expressions c = worked.expressions
 
+pub returns-clause-greatest : goal.returns-clause-greatest
+returns-clause-greatest c = worked.greatest
+
 pub returns-clause-optionals : goal.returns-clause-optionals
 returns-clause-optionals c = worked.optionals
 

@@ -1,0 +1,6 @@
+mod EntryLaws
+mod ReckonLaws
+mod SizeLaws
+mod ValueLaws
+mod ViewLaws
+mod WorthLaws

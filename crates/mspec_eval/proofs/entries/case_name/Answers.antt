@@ -1,0 +1,9 @@
+use Rattle.std.proofs.Common.{◌∙◌, sym}
+use Rattle.mspec_eval.proofs.EntryLaws.{named_case, no_case}
+use Rattle.mspec_eval.proofs.entries.case_name.Goals as goal
+
+pub returns-in-Some : goal.returns-in-Some
+returns-in-Some c = c.as_slice.ensures ∙ sym (named_case c.args.case c.args.cases.now c.in-Some.found.now c.if-case-eq0.false c.in-Some.ensures)
+
+pub returns-in-None : goal.returns-in-None
+returns-in-None c = sym (no_case c.args.case c.args.cases.now c.if-case-eq0.false c.in-None.ensures)

@@ -1,0 +1,11 @@
+mod AppendLemmas
+mod BlockLemmas
+mod CaseLaws
+mod LeafLaw
+mod LineLemmas
+mod NameLemmas
+mod PathLaw
+mod PlainLaw
+mod ReadLaw
+mod SolidLemmas
+mod WordLemmas

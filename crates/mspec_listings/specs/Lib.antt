@@ -1,0 +1,4 @@
+pub mod Leaves
+pub mod Listings
+pub mod Paths
+pub mod Plain
