@@ -13,4 +13,4 @@ mod spans;
 mod tests;
 mod verdicts;
 
-pub use ranges::range_of;
+pub use ranges::{kind_of, range_of};

@@ -1,7 +1,7 @@
 //! What an expression is in a scope.
 
 ghost use Rattle.std.specs.Prelude.{◌≡◌};
-ghost use Rattle.mspec_expr.specs.Ranges.{range_found};
+ghost use Rattle.mspec_expr.specs.Ranges.{judged, range_found};
 ghost use Rattle.mspec_ranges.specs.Verdicts.{told};
 
 use crate::judging::judge;
@@ -30,4 +30,12 @@ pub fn range_of(d: &Description, scope: &Scope, e: &Expr) -> Result<Meant, Range
             why: ExprWhy::KindMismatch,
         }),
     }
+}
+
+/// What an expression is in a scope, if it is anything, whatever is wrong below: a sum is a number though an operand isn't found. It
+/// takes no memory.
+pub fn kind_of(d: &Description, scope: &Scope, e: &Expr) -> Option<Meant>
+    ensures { result ≡ (judged d.now scope.now e.now).meant }
+{
+    judge(d, scope, e, LEVELS).meant
 }

@@ -1,0 +1,17 @@
+use Rattle.std.proofs.Common.{◌≡◌, ◌++◌, take, drop}
+use Rattle.std.specs.List.{flat_map}
+use Rattle.mspec_expr.specs.Kinds.{layer}
+use Rattle.mspec_rules.specs.Wrongs.{earlier, found}
+use Rattle.mspec_check.specs.Fields.{field_wrongs}
+use Rattle.mspec_check.specs.Scopes.{Placed, names_before, placed, seen_given}
+use Rattle.mspec_check.proofs.FieldLaws.{around_from}
+use Rattle.std.specs.Prelude.{IfSome}
+use Rattle.mspec_check.proofs.fields.case_fields_wrong.Given as goal
+
+abbrev pub invariant-loop-i : goal.invariant-loop-i
+invariant-loop-i l =
+    let g = λ (at : Placed). field_wrongs l.d at.around (layer at.field) in record {
+      told : earlier l.told (found (flat_map g (placed l.outer.params.now (l.outer.before.now ++ take l.i l.fields) l.outer.after.now (drop l.i l.fields)))) ≡ found (flat_map g (placed l.outer.params.now l.outer.before.now l.outer.after.now l.fields));
+      given : IfSome l.given (λ seen. seen ≡ seen_given l.d (around_from l.outer.params.now l.outer.before.now l.outer.after.now l.fields l.i));
+      names : l.scope.names ≡ names_before l.d l.outer.params.now (l.outer.before.now ++ take l.i l.fields);
+    }

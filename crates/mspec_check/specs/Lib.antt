@@ -1,0 +1,9 @@
+pub mod Accepted
+pub mod Arguments
+pub mod Expressions
+pub mod Fields
+pub mod Paddings
+pub mod Scopes
+pub mod Sites
+pub mod Switches
+pub mod Wants

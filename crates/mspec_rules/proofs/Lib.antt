@@ -1,0 +1,5 @@
+pub mod NameLaws
+pub mod LiteralLaws
+pub mod CountLaws
+pub mod LimitLaws
+pub mod FirstLaws

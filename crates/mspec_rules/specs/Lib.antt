@@ -1,0 +1,10 @@
+pub mod Counts
+pub mod Found
+pub mod Fronts
+pub mod Limits
+pub mod Literals
+pub mod Names
+pub mod Rules
+pub mod Switches
+pub mod Types
+pub mod Wrongs
