@@ -120,6 +120,9 @@ refused 'another command' frob
 refused 'print without a file' print
 refused 'print of two files' print record record
 refused 'an option to print' print -record
+refused 'check without a file' check
+refused 'check of two files' check record record
+refused 'an option behind check' check record --x=1
 refused 'a command in capitals' Decode record P
 refused 'an option' --help
 refused 'an option before a command' --version replay
@@ -148,6 +151,21 @@ runs 'a stray byte before a fault of the grammar' 1 'description refused 1:3 Cha
 runs 'a description without a tree, to decode' 1 'description refused 1:26 EndOfText\n' one decode open_type P
 runs 'a comment and another width in the first form' 0 'a = 258\n\n' two decode commented P
 runs 'a file to print that there is not' 3 'file fault\n' one print nothing
+
+# ---- rules
+
+printf '[type P [simple uint 8 a] [simple uint 8 a]]' >doubled
+printf "[type X [simple uint 8 a] [virtual uint 8 b '1 / a']]" >divided
+runs 'an accepted description' 0 'accepted\n' one check record
+runs 'an accepted description of nothing' 0 'accepted\n' one check empty
+runs 'a name that stands twice, to check' 1 'description refused 1:42 DoubledName\n' one check doubled
+runs 'a name that stands twice, to print' 1 'description refused 1:42 DoubledName\n' one print doubled
+runs 'a name that stands twice, to decode' 1 'description refused 1:42 DoubledName\n' one decode doubled P
+runs 'a divisor that may be 0' 1 'description refused 1:48 DivisorMayBeZero\n' one check divided
+runs 'a description without a tree, to check' 1 'description refused 1:26 EndOfText\n' one check open_type
+runs 'a file to check that there is not' 3 'file fault\n' one check nothing
+runs 'the description of modbus' 0 'accepted\n' one check "$checks/modbus.mspec"
+runs 'the description of s7' 0 'accepted\n' one check "$checks/s7.mspec"
 
 # printed PROTOCOL: what is printed of the protocol's description is printed as itself.
 printed() {

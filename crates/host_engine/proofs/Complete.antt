@@ -13,15 +13,16 @@ use Rattle.script_lines.specs.Scripts.{must_stand}
 use Rattle.script_replay.specs.Replays.{Script}
 use Rattle.script_replay.specs.declared.replays.ScriptEnd.TheVariants.{Answered}
 use Rattle.host_engine.specs.declared.inputs.How.{How}
+use Rattle.host_engine.specs.declared.words.FileCommand.{FileCommand}
 use Rattle.host_engine.specs.declared.inputs.How.TheVariants.{Ended, Failed, Over}
 use Rattle.host_engine.specs.Lines.{lines_of}
 use Rattle.host_engine.specs.Runs.{FileSeen, InputTaken, IsRun, Shown}
-use Rattle.host_engine.specs.Texts.{IsTreeOf}
+use Rattle.host_engine.specs.Texts.{Describes}
 use Rattle.host_engine.specs.Told.{GivesSo, InputTold, IsTold, NoneFailed, TellsScript, TellsValues}
-use Rattle.host_engine.specs.Tool.{ArePrint, NamesFile, ComesTo, Course, IsDecided, Said, Taken, Tool, WordsRefused, FileFault, NoTree, NotBuilt, TypeRefused, Values, Answers, Printed, entries_said, input_limit, refusal_of_line, said, script_said}
+use Rattle.host_engine.specs.Tool.{AreOverFile, NamesFile, ComesTo, Course, IsDecided, Said, Taken, Tool, WordsRefused, FileFault, TextRefused, NotBuilt, TypeRefused, Values, Answers, Described, entries_said, input_limit, refusal_of_line, said, script_said}
 use Rattle.host_engine.proofs.NoRefusal.{no_refusal}
-use Rattle.host_engine.proofs.OneSaid.{one_said}
-use Rattle.host_engine.proofs.StatusLemmas.{names_no_script}
+use Rattle.host_engine.proofs.OneSaid.{moved_description, one_said}
+use Rattle.host_engine.proofs.StatusLemmas.{names_no_script, no_text, refused_file}
 use Rattle.host_engine.proofs.WordLemmas.{one_file}
 
 -- ---- what was taken is what was told
@@ -67,8 +68,8 @@ without_input : (words : List (List ℕ)) (file : Option (List ℕ)) (bytes : Li
 without_input words file bytes u WordsRefused same comes decided = (WordsRefused, comes, decided_so u.how WordsRefused decided, refl)
 without_input words file bytes u FileFault same comes decided =
     (FileFault, (comes.0, comes.1, same comes.0 comes.1 ∙ comes.2), decided_so u.how FileFault decided, refl)
-without_input words file bytes u (NoTree place why) same comes decided =
-    (NoTree place why, (comes.0, comes.1, comes.2, same comes.0 comes.2 ∙ comes.3, comes.4), decided_so u.how (NoTree place why) decided, refl)
+without_input words file bytes u (TextRefused place why) same comes decided =
+    (TextRefused place why, (comes.0, comes.1, comes.2, same comes.0 comes.2 ∙ comes.3, comes.4), decided_so u.how (TextRefused place why) decided, refl)
 without_input words file bytes u NotBuilt same comes decided =
     (NotBuilt, (comes.0, comes.1, comes.2, comes.3, comes.4, same comes.0 (inl (comes.1, comes.4)) ∙ comes.5, comes.6, comes.7), decided_so u.how NotBuilt decided, refl)
 without_input words file bytes u TypeRefused same comes decided =
@@ -78,8 +79,8 @@ without_input words file bytes u (Values d def readings (TooFew left)) same come
 without_input words file bytes u (Values d def readings (Refused bit why)) same comes decided =
     absurd (no_refusal comes.2 d def (take input_limit bytes) readings bit why comes.5 comes.7)
 without_input words file bytes u (Answers text end) same comes decided = absurd decided
-without_input words file bytes u (Printed d) same comes decided =
-    (Printed d, (comes.0, comes.1, comes.2, same comes.0 (inr comes.2) ∙ comes.3, comes.4), decided_so u.how (Printed d) decided, refl)
+without_input words file bytes u (Described command d) same comes decided =
+    (Described command d, (comes.0, comes.1, comes.2, same comes.0 (inr (command, comes.2)) ∙ comes.3, comes.4), decided_so u.how (Described command d) decided, refl)
 
 left_alone : (words : List (List ℕ)) (t u : Taken) (outcome : Said) → ((name : List ℕ) → NamesFile words name → u.file ≡ t.file) → t.how ≡ None → Tool words t outcome → Tool words u outcome
 left_alone words t u outcome same none tool =
@@ -94,7 +95,7 @@ left_alone words t u outcome same none tool =
 same_taken : (words : List (List ℕ)) (file other : Option (List ℕ)) (bytes : List ℕ) (how : How) (course : Course) → ((name : List ℕ) → NamesFile words name → other ≡ file) → ComesTo words (record { file = file; bytes = bytes; how = Some how }) course → ComesTo words (record { file = other; bytes = bytes; how = Some how }) course
 same_taken words file other bytes how WordsRefused same comes = comes
 same_taken words file other bytes how FileFault same comes = (comes.0, comes.1, same comes.0 comes.1 ∙ comes.2)
-same_taken words file other bytes how (NoTree place why) same comes =
+same_taken words file other bytes how (TextRefused place why) same comes =
     (comes.0, comes.1, comes.2, same comes.0 comes.2 ∙ comes.3, comes.4)
 same_taken words file other bytes how NotBuilt same comes =
     (comes.0, comes.1, comes.2, comes.3, comes.4, same comes.0 (inl (comes.1, comes.4)) ∙ comes.5, comes.6, comes.7)
@@ -103,8 +104,8 @@ same_taken words file other bytes how TypeRefused same comes =
 same_taken words file other bytes how (Values d def readings ending) same comes =
     (comes.0, comes.1, comes.2, comes.3, same comes.0 (inl (comes.1, comes.3)) ∙ comes.4, comes.5, comes.6, comes.7)
 same_taken words file other bytes how (Answers text end) same comes = comes
-same_taken words file other bytes how (Printed d) same comes =
-    (comes.0, comes.1, comes.2, same comes.0 (inr comes.2) ∙ comes.3, comes.4)
+same_taken words file other bytes how (Described command d) same comes =
+    (comes.0, comes.1, comes.2, same comes.0 (inr (command, comes.2)) ∙ comes.3, comes.4)
 
 as_told : (words : List (List ℕ)) (before after : SourceSeen) (t : Taken) (file : Option (List ℕ)) (taken : List ℕ) (how : Option How) (one other : Said) → ((name : List ℕ) → NamesFile words name → file ≡ t.file) → ((t.how ≡ None) × (t.bytes ≡ [])) ⊎ InputTold before t.bytes t.how → (Rose before.faults after.faults → ⊥) → InputTaken before after taken how → Tool words t one → Tool words (record { file = file; bytes = taken; how = how }) other → other ≡ one
 as_told words before after t file taken None one other same told well input tool ran =
@@ -187,21 +188,48 @@ script_well words counts_with before after status run s well =
 
 -- ---- descriptions
 
-printed_decided : (how : Option How) (d : Description) → IsDecided how (Printed d)
-printed_decided None d = tt
-printed_decided (Some left) d = tt
+described_decided : (how : Option How) (command : FileCommand) (d : Description) → IsDecided how (Described command d)
+described_decided None command d = tt
+described_decided (Some left) command d = tt
 
-pub print_well : (words : List (List ℕ)) (counts_with : List ℕ → List ℕ → Type 0) (before after : Shown) (status : ℕ) → IsRun words counts_with before after status → (name text : List ℕ) (d : Description) → ArePrint words name → before.files.file name ≡ Some text → IsTreeOf text d → (Rose (before.files.faults name) (after.files.faults name) → ⊥) → (Rose before.out.faults after.out.faults → ⊥) → (status ≡ 0) ⊎ (status ≡ 8)
-print_well words counts_with before after status run name text d print told tree well out =
+pub answered_well : (words : List (List ℕ)) (counts_with : List ℕ → List ℕ → Type 0) (before after : Shown) (status : ℕ) → IsRun words counts_with before after status → (command : FileCommand) (name text : List ℕ) (d : Description) → AreOverFile words command name → before.files.file name ≡ Some text → Describes text d → (Rose (before.files.faults name) (after.files.faults name) → ⊥) → (Rose before.out.faults after.out.faults → ⊥) → (status ≡ 0) ⊎ (status ≡ 8)
+answered_well words counts_with before after status run command name text d over told described well out =
     elim (cases_eq status 5) [
       | inl five ↦ absurd (out (run.out_failed five))
       | inr put ↦ elim (cases_eq status 8) [
         | inl eight ↦ inr eight
         | inr enough ↦
             let s = run.said put enough in
-            let file = file_told name before.files after.files s.0.file text (s.2.from_files.named name (inr print)) well told in
-            let tool : Tool words s.0 (said s.0.how (Printed d)) = (Printed d, (name, text, print, file, tree), printed_decided s.0.how d, refl) in
-            let same : s.1 ≡ said s.0.how (Printed d) = one_said words s.0 s.1 (said s.0.how (Printed d)) s.3 tool in
+            let file = file_told name before.files after.files s.0.file text (s.2.from_files.named name (inr (command, over))) well told in
+            let tool : Tool words s.0 (said s.0.how (Described command d)) = (Described command d, (name, text, over, file, described), described_decided s.0.how command d, refl) in
+            let same : s.1 ≡ said s.0.how (Described command d) = one_said words s.0 s.1 (said s.0.how (Described command d)) s.3 tool in
             inl (s.5 ∙ ap (λ (o : Said). o.status) same)
+      ]
+    ]
+
+-- a file that is no accepted description's is refused
+only_refused : (words : List (List ℕ)) (t : Taken) (name text : List ℕ) (course : Course) → ComesTo words t course → NamesFile words name → t.file ≡ Some text → ((d : Description) → Describes text d → ⊥) → (said t.how course).status ≡ 1
+only_refused words t name text WordsRefused comes names told none = absurd (refused_file words name comes names)
+only_refused words t name text FileFault comes names told none = absurd (no_text t.file text comes.2 told)
+only_refused words t name text (TextRefused place why) comes names told none = refl
+only_refused words t name text NotBuilt comes names told none = refl
+only_refused words t name text TypeRefused comes names told none =
+    absurd (none comes.3 (moved_description t.file text comes.2 comes.3 told comes.5 comes.6.0))
+only_refused words t name text (Values d def readings ending) comes names told none =
+    absurd (none d (moved_description t.file text comes.2 d told comes.4 comes.5.0))
+only_refused words t name text (Answers answers end) comes names told none = absurd (names_no_script words name names comes.0)
+only_refused words t name text (Described command d) comes names told none =
+    absurd (none d (moved_description t.file text comes.1 d told comes.3 comes.4))
+
+pub refused_text : (words : List (List ℕ)) (counts_with : List ℕ → List ℕ → Type 0) (before after : Shown) (status : ℕ) → IsRun words counts_with before after status → (name text : List ℕ) → NamesFile words name → before.files.file name ≡ Some text → (Rose (before.files.faults name) (after.files.faults name) → ⊥) → ((d : Description) → Describes text d → ⊥) → (status ≡ 1) ⊎ ((status ≡ 5) ⊎ (status ≡ 8))
+refused_text words counts_with before after status run name text names told well none =
+    elim (cases_eq status 5) [
+      | inl five ↦ inr (inl five)
+      | inr put ↦ elim (cases_eq status 8) [
+        | inl eight ↦ inr (inr eight)
+        | inr enough ↦
+            let s = run.said put enough in
+            let file = file_told name before.files after.files s.0.file text (s.2.from_files.named name names) well told in
+            inl (s.5 ∙ ap (λ (o : Said). o.status) s.3.3 ∙ only_refused words s.0 name text s.3.0 s.3.1 names file none)
       ]
     ]

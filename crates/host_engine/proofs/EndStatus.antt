@@ -15,10 +15,12 @@ use Rattle.script_replay.specs.Replays.{AreAnswered, Leads, Script, after_comman
 use Rattle.script_replay.specs.declared.replays.ScriptEnd.{ScriptEnd}
 use Rattle.script_replay.specs.declared.replays.ScriptEnd.TheVariants.{Answered, Refused as LineRefused}
 use Rattle.host_engine.specs.declared.inputs.How.{How}
+use Rattle.host_engine.specs.declared.words.FileCommand.{FileCommand}
+use Rattle.host_engine.specs.declared.words.FileCommand.TheVariants.{Check, Print}
 use Rattle.host_engine.specs.declared.inputs.How.TheVariants.{Ended, Failed, Over}
 use Rattle.host_engine.specs.Lines.{lines_of}
-use Rattle.host_engine.specs.Runs.{FileTaken, InputTaken, Shown, Took, WasDecoded, WasPrinted, WasReplayed}
-use Rattle.host_engine.specs.Tool.{ComesTo, Course, IsDecided, Said, Taken, Tool, WordsRefused, FileFault, NoTree, NotBuilt, TypeRefused, Values, Answers, Printed, entries_said, input_limit, last_said, refusal_of_line, said, script_said}
+use Rattle.host_engine.specs.Runs.{FileTaken, InputTaken, Shown, Took, WasChecked, WasDecoded, WasDescribed, WasPrinted, WasReplayed}
+use Rattle.host_engine.specs.Tool.{ComesTo, Course, IsDecided, Said, Taken, Tool, WordsRefused, FileFault, TextRefused, NotBuilt, TypeRefused, Values, Answers, Described, entries_said, input_limit, last_said, refusal_of_line, said, script_said}
 use Rattle.host_engine.proofs.StatusLemmas.{not_script}
 
 -- ---- values
@@ -119,27 +121,35 @@ replayed words b a file bytes (Some Ended) text (Answered next entries) outcome 
 
 -- ---- by the status
 
-printed : (words : List (List ℕ)) (counts_with : List ℕ → List ℕ → Type 0) (b a : Shown) (t : Taken) (d : Description) (outcome : Said) → Took words counts_with b.files a.files b.input a.input t → ComesTo words t (Printed d) → outcome ≡ said t.how (Printed d) → a.out.held ≡ after_taking outcome.text b.out.held
-    → WasPrinted words counts_with b a
-printed words counts_with b a t d outcome took comes is put =
+described : (words : List (List ℕ)) (counts_with : List ℕ → List ℕ → Type 0) (b a : Shown) (t : Taken) (command : FileCommand) (d : Description) (outcome : Said) → Took words counts_with b.files a.files b.input a.input t → ComesTo words t (Described command d) → outcome ≡ said t.how (Described command d) → a.out.held ≡ after_taking outcome.text b.out.held
+    → WasDescribed words command counts_with b a
+described words counts_with b a t command d outcome took comes is put =
     record {
       file_name = comes.0;
       text = comes.1;
       d = d;
-      are_print = comes.2;
+      are_words = comes.2;
       from_files = subst (λ (f : Option (List ℕ)). FileTaken words counts_with b.files a.files f) comes.3 took.from_files;
-      tree = comes.4;
+      described = comes.4;
       put_out = put ∙ ap (λ (o : Said). after_taking o.text b.out.held) is;
     }
 
 abbrev EndsWell : (words : List (List ℕ)) → (counts_with : List ℕ → List ℕ → Type 0) → (b a : Shown) → Type 0
-EndsWell words counts_with b a = WasDecoded words counts_with b a End ⊎ WasReplayed words b a ⊎ WasPrinted words counts_with b a
+EndsWell words counts_with b a =
+    WasDecoded words counts_with b a End
+    ⊎ WasReplayed words b a
+    ⊎ WasPrinted words counts_with b a
+    ⊎ WasChecked words counts_with b a
+
+by_command : (words : List (List ℕ)) (command : FileCommand) (counts_with : List ℕ → List ℕ → Type 0) (b a : Shown) → WasDescribed words command counts_with b a → EndsWell words counts_with b a
+by_command words Check counts_with b a was = inr (inr (inr was))
+by_command words Print counts_with b a was = inr (inr (inl was))
 
 well_by : (words : List (List ℕ)) (counts_with : List ℕ → List ℕ → Type 0) (b a : Shown) (t : Taken) (course : Course) (outcome : Said) → Took words counts_with b.files a.files b.input a.input t → ComesTo words t course → IsDecided t.how course → outcome ≡ said t.how course → outcome.status ≡ 0 → a.out.held ≡ after_taking outcome.text b.out.held
     → EndsWell words counts_with b a
 well_by words counts_with b a t WordsRefused outcome took comes decided is e put = absurd (omega (arith, e, ap (λ (o : Said). o.status) is))
 well_by words counts_with b a t FileFault outcome took comes decided is e put = absurd (omega (arith, e, ap (λ (o : Said). o.status) is))
-well_by words counts_with b a t (NoTree place why) outcome took comes decided is e put = absurd (omega (arith, e, ap (λ (o : Said). o.status) is))
+well_by words counts_with b a t (TextRefused place why) outcome took comes decided is e put = absurd (omega (arith, e, ap (λ (o : Said). o.status) is))
 well_by words counts_with b a t NotBuilt outcome took comes decided is e put = absurd (omega (arith, e, ap (λ (o : Said). o.status) is))
 well_by words counts_with b a t TypeRefused outcome took comes decided is e put = absurd (omega (arith, e, ap (λ (o : Said). o.status) is))
 well_by words counts_with b a t (Values d def readings ending) outcome took comes decided is e put =
@@ -147,18 +157,18 @@ well_by words counts_with b a t (Values d def readings ending) outcome took come
     inl (subst (λ (last : Ending). WasDecoded words counts_with b a last) h.1 (decoded words counts_with b a t d def readings ending outcome took comes h.0 is put))
 well_by words counts_with b a t (Answers text end) outcome took comes decided is e put =
     inr (inl (replayed words b a t.file t.bytes t.how text end outcome took.from_input comes decided is e put))
-well_by words counts_with b a t (Printed d) outcome took comes decided is e put =
-    inr (inr (printed words counts_with b a t d outcome took comes is put))
+well_by words counts_with b a t (Described command d) outcome took comes decided is e put =
+    by_command words command counts_with b a (described words counts_with b a t command d outcome took comes is put)
 
 pub well_at_0 : (words : List (List ℕ)) (counts_with : List ℕ → List ℕ → Type 0) (b a : Shown) (t : Taken) (outcome : Said) → Took words counts_with b.files a.files b.input a.input t → Tool words t outcome → outcome.status ≡ 0 → a.out.held ≡ after_taking outcome.text b.out.held
-    → WasDecoded words counts_with b a End ⊎ WasReplayed words b a ⊎ WasPrinted words counts_with b a
+    → WasDecoded words counts_with b a End ⊎ WasReplayed words b a ⊎ WasPrinted words counts_with b a ⊎ WasChecked words counts_with b a
 well_at_0 words counts_with b a t outcome took tool e put = well_by words counts_with b a t tool.0 outcome took tool.1 tool.2 tool.3 e put
 
 cut_by : (words : List (List ℕ)) (counts_with : List ℕ → List ℕ → Type 0) (b a : Shown) (t : Taken) (course : Course) (outcome : Said) → Took words counts_with b.files a.files b.input a.input t → ComesTo words t course → IsDecided t.how course → outcome ≡ said t.how course → outcome.status ≡ 7 → a.out.held ≡ after_taking outcome.text b.out.held
     → (left : ℕ) × WasDecoded words counts_with b a (TooFew left)
 cut_by words counts_with b a t WordsRefused outcome took comes decided is e put = absurd (omega (arith, e, ap (λ (o : Said). o.status) is))
 cut_by words counts_with b a t FileFault outcome took comes decided is e put = absurd (omega (arith, e, ap (λ (o : Said). o.status) is))
-cut_by words counts_with b a t (NoTree place why) outcome took comes decided is e put = absurd (omega (arith, e, ap (λ (o : Said). o.status) is))
+cut_by words counts_with b a t (TextRefused place why) outcome took comes decided is e put = absurd (omega (arith, e, ap (λ (o : Said). o.status) is))
 cut_by words counts_with b a t NotBuilt outcome took comes decided is e put = absurd (omega (arith, e, ap (λ (o : Said). o.status) is))
 cut_by words counts_with b a t TypeRefused outcome took comes decided is e put = absurd (omega (arith, e, ap (λ (o : Said). o.status) is))
 cut_by words counts_with b a t (Values d def readings ending) outcome took comes decided is e put =
@@ -166,7 +176,7 @@ cut_by words counts_with b a t (Values d def readings ending) outcome took comes
     (h.1.0, subst (λ (last : Ending). WasDecoded words counts_with b a last) h.1.1 (decoded words counts_with b a t d def readings ending outcome took comes h.0 is put))
 cut_by words counts_with b a t (Answers text end) outcome took comes decided is e put =
     absurd (not_script t.how end 7 refl (sym e ∙ ap (λ (o : Said). o.status) is))
-cut_by words counts_with b a t (Printed d) outcome took comes decided is e put = absurd (omega (arith, e, ap (λ (o : Said). o.status) is))
+cut_by words counts_with b a t (Described command d) outcome took comes decided is e put = absurd (omega (arith, e, ap (λ (o : Said). o.status) is))
 
 pub cut_at_7 : (words : List (List ℕ)) (counts_with : List ℕ → List ℕ → Type 0) (b a : Shown) (t : Taken) (outcome : Said) → Took words counts_with b.files a.files b.input a.input t → Tool words t outcome → outcome.status ≡ 7 → a.out.held ≡ after_taking outcome.text b.out.held
     → (left : ℕ) × WasDecoded words counts_with b a (TooFew left)

@@ -15,19 +15,19 @@ use Rattle.host_engine.specs.declared.preparing.Refusal.{Refusal}
 use Rattle.host_engine.specs.declared.preparing.Refusal.TheVariants as refusals
 use Rattle.host_engine.specs.Preparing.{ComesToRefusal, IsRefusedFile, from_file, from_text}
 use Rattle.host_engine.specs.Runs.{FileSeen, FileTaken, LacksFile}
-use Rattle.host_engine.specs.Texts.{IsNoText, IsTreeOf, OfTextFault}
+use Rattle.host_engine.specs.Texts.{IsRefusedText, Describes, OfTextFault}
 use Rattle.host_engine.specs.Tool.{AreRefused, NamesFile}
 use Rattle.host_engine.proofs.StatusLemmas.{refused_file}
-use Rattle.host_engine.proofs.TextLaws.{front_refused, tree_short, whole_text}
+use Rattle.host_engine.proofs.TextLaws.{front_refused, described_short, whole_text}
 use Rattle.host_engine.proofs.WordLemmas.{one_file}
 
 -- ---- the file
 
-pub text_seen : (told : Option (List ℕ)) (text : List ℕ) (d : Description) → IfSome told (λ bytes. text ≡ take 1048577 bytes) → IsTreeOf text d → IfSome told (λ bytes. text ≡ bytes)
+pub text_seen : (told : Option (List ℕ)) (text : List ℕ) (d : Description) → IfSome told (λ bytes. text ≡ take 1048577 bytes) → Describes text d → IfSome told (λ bytes. text ≡ bytes)
 text_seen None text d front tree = tt
-text_seen (Some bytes) text d front tree = whole_text text bytes front (tree_short text d tree)
+text_seen (Some bytes) text d front tree = whole_text text bytes front (described_short text d tree)
 
-refused_seen : (told : Option (List ℕ)) (text : List ℕ) (place : Place) (why : TextWhy) → IfSome told (λ bytes. text ≡ take 1048577 bytes) → IsNoText text place why → (seen : List ℕ) × IfSome told (λ bytes. seen ≡ bytes) × IsNoText seen place why
+refused_seen : (told : Option (List ℕ)) (text : List ℕ) (place : Place) (why : TextWhy) → IfSome told (λ bytes. text ≡ take 1048577 bytes) → IsRefusedText text place why → (seen : List ℕ) × IfSome told (λ bytes. seen ≡ bytes) × IsRefusedText seen place why
 refused_seen None text place why front fault = (text, tt, fault)
 refused_seen (Some bytes) text place why front fault = (bytes, refl, front_refused text bytes place why front fault)
 
@@ -49,7 +49,7 @@ failed_seen name before after NoMemory rose kept lacking =
     (Some some.0, (same, some.1, λ lacks. absurd (let h = lacking lacks in cc)), tt)
 
 -- a text without a tree, or want of memory
-pub unformed_seen : (name text : List ℕ) (before after : ShelfSeen) (e : TextFault) → ((other : List ℕ) → after.faults other ≡ before.faults other) → IfSome (before.file name) (λ bytes. text ≡ take 1048577 bytes) → (IsTrue (before.lacks name) → ⊥) → OfTextFault e (λ place why. IsNoText text place why) → IsRefusedSeen name before after (from_text e)
+pub unformed_seen : (name text : List ℕ) (before after : ShelfSeen) (e : TextFault) → ((other : List ℕ) → after.faults other ≡ before.faults other) → IfSome (before.file name) (λ bytes. text ≡ take 1048577 bytes) → (IsTrue (before.lacks name) → ⊥) → OfTextFault e (λ place why. IsRefusedText text place why) → IsRefusedSeen name before after (from_text e)
 unformed_seen name text before after (texts.At place why) same front there fault =
     let seen = refused_seen (before.file name) text place why front fault in
     (Some seen.0, (same, seen.1, there), (seen.0, refl, seen.2))
@@ -75,7 +75,7 @@ unnamed_taken words counts_with seen none =
 pub named_refusal : (words : List (List ℕ)) (name : List ℕ) (file : Option (List ℕ)) (r : Refusal) → NamesFile words name → IsRefusedFile file r → ComesToRefusal words file r
 named_refusal words name file refusals.WordsRefused names is = absurd is
 named_refusal words name file refusals.FileFault names is = (name, names, is)
-named_refusal words name file (refusals.NoTree place why) names is = (name, is.0, names, is.1, is.2)
+named_refusal words name file (refusals.TextRefused place why) names is = (name, is.0, names, is.1, is.2)
 named_refusal words name file refusals.NotBuilt names is = absurd is
 named_refusal words name file refusals.TypeRefused names is = absurd is
 named_refusal words name file refusals.NoMemory names is = tt

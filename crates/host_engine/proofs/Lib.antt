@@ -1,3 +1,5 @@
+pub mod CheckLaws
+pub mod CommandLemmas
 pub mod Complete
 pub mod EndLemmas
 pub mod EndStatus
@@ -12,7 +14,6 @@ pub mod ListingLemmas
 pub mod NameLemmas
 pub mod NoRefusal
 pub mod OneSaid
-pub mod PrintLemmas
 pub mod ReplyLemmas
 pub mod RunLemmas
 pub mod ScriptStatus

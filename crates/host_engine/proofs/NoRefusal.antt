@@ -26,7 +26,7 @@ use Rattle.host_engine.specs.declared.inputs.How.TheVariants.{Ended, Failed, Ove
 use Rattle.host_engine.specs.FirstForm.{FirstForm}
 use Rattle.host_engine.proofs.FormLaws.{OnePlain, found_def, one_plain}
 use Rattle.host_engine.proofs.StatusLemmas.{not_script}
-use Rattle.host_engine.specs.Tool.{ComesTo, Course, WordsRefused, FileFault, NoTree, NotBuilt, TypeRefused, Values, Answers, Printed, Taken, input_limit, last_said, said}
+use Rattle.host_engine.specs.Tool.{ComesTo, Course, WordsRefused, FileFault, TextRefused, NotBuilt, TypeRefused, Values, Answers, Described, Taken, input_limit, last_said, said}
 
 -- ---- numbers
 
@@ -164,10 +164,10 @@ never_6 text d def bytes readings (Some Over) (TooFew left) form stream e = absu
 pub no_status_6 : (words : List (List ℕ)) (t : Taken) (course : Course) → ComesTo words t course → (said t.how course).status ≢ 6
 no_status_6 words t WordsRefused comes e = absurd (omega (arith, e))
 no_status_6 words t FileFault comes e = absurd (omega (arith, e))
-no_status_6 words t (NoTree place why) comes e = absurd (omega (arith, e))
+no_status_6 words t (TextRefused place why) comes e = absurd (omega (arith, e))
 no_status_6 words t NotBuilt comes e = absurd (omega (arith, e))
 no_status_6 words t TypeRefused comes e = absurd (omega (arith, e))
 no_status_6 words t (Values d def readings ending) comes e =
     never_6 comes.2 d def (take input_limit t.bytes) readings t.how ending comes.5 comes.7 e
 no_status_6 words t (Answers text end) comes e = not_script t.how end 6 refl (sym e)
-no_status_6 words t (Printed d) comes e = absurd (omega (arith, e))
+no_status_6 words t (Described command d) comes e = absurd (omega (arith, e))

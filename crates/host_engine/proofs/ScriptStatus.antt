@@ -10,7 +10,7 @@ use Rattle.host_engine.specs.declared.inputs.How.{How}
 use Rattle.host_engine.specs.declared.inputs.How.TheVariants.{Ended, Failed, Over}
 use Rattle.host_engine.specs.Lines.{lines_of}
 use Rattle.host_engine.specs.Runs.{InputTaken}
-use Rattle.host_engine.specs.Tool.{AreReplay, ComesTo, Course, IsDecided, Said, Taken, Tool, WordsRefused, FileFault, NoTree, NotBuilt, TypeRefused, Values, Answers, Printed, entries_said, input_limit, refusal_of_line, refused_line, said, script_last}
+use Rattle.host_engine.specs.Tool.{AreReplay, ComesTo, Course, IsDecided, Said, Taken, Tool, WordsRefused, FileFault, TextRefused, NotBuilt, TypeRefused, Values, Answers, Described, entries_said, input_limit, refusal_of_line, refused_line, said, script_last}
 use Rattle.host_engine.proofs.StatusLemmas.{not_last}
 
 refused_at : (left : How) (end : ScriptEnd) → (script_last (Some left) end).status ≡ 10 → (line : ℕ) × (refused_line left end ≡ Some line) × ((script_last (Some left) end).text ≡ (refusal_of_line line).text)
@@ -26,7 +26,7 @@ line_by : (words : List (List ℕ)) (file : Option (List ℕ)) (bytes : List ℕ
     → AreReplay words × ((taken : List ℕ) × (left : How) × (text : List ℕ) × (end : ScriptEnd) × (line : ℕ) × InputTaken before after taken (Some left) × Script (lines_of (Some left) (take input_limit taken)) text end × (refused_line left end ≡ Some line) × (held' ≡ after_taking (text ++ (refusal_of_line line).text) held))
 line_by words file bytes how WordsRefused outcome before after held held' comes decided is e input put = absurd (omega (arith, e, ap (λ (o : Said). o.status) is))
 line_by words file bytes how FileFault outcome before after held held' comes decided is e input put = absurd (omega (arith, e, ap (λ (o : Said). o.status) is))
-line_by words file bytes how (NoTree place why) outcome before after held held' comes decided is e input put = absurd (omega (arith, e, ap (λ (o : Said). o.status) is))
+line_by words file bytes how (TextRefused place why) outcome before after held held' comes decided is e input put = absurd (omega (arith, e, ap (λ (o : Said). o.status) is))
 line_by words file bytes how NotBuilt outcome before after held held' comes decided is e input put = absurd (omega (arith, e, ap (λ (o : Said). o.status) is))
 line_by words file bytes how TypeRefused outcome before after held held' comes decided is e input put = absurd (omega (arith, e, ap (λ (o : Said). o.status) is))
 line_by words file bytes how (Values d def readings ending) outcome before after held held' comes decided is e input put =
@@ -36,7 +36,7 @@ line_by words file bytes (Some left) (Answers text end) outcome before after hel
     let at = refused_at left end (ap (λ (o : Said). o.status) (sym is) ∙ e) in
     let all : held' ≡ after_taking (text ++ (refusal_of_line at.0).text) held = put ∙ ap (λ (o : Said). after_taking o.text held) is ∙ ap (λ (last : List ℕ). after_taking (text ++ last) held) at.2 in
     (comes.0, (bytes, left, text, end, at.0, input, comes.1, at.1, all))
-line_by words file bytes how (Printed d) outcome before after held held' comes decided is e input put = absurd (omega (arith, e, ap (λ (o : Said). o.status) is))
+line_by words file bytes how (Described command d) outcome before after held held' comes decided is e input put = absurd (omega (arith, e, ap (λ (o : Said). o.status) is))
 
 pub line_at_10 : (words : List (List ℕ)) (t : Taken) (outcome : Said) (before after : SourceSeen) (held held' : Option (List ℕ)) → Tool words t outcome → outcome.status ≡ 10 → InputTaken before after t.bytes t.how → held' ≡ after_taking outcome.text held
     → AreReplay words × ((taken : List ℕ) × (left : How) × (text : List ℕ) × (end : ScriptEnd) × (line : ℕ) × InputTaken before after taken (Some left) × Script (lines_of (Some left) (take input_limit taken)) text end × (refused_line left end ≡ Some line) × (held' ≡ after_taking (text ++ (refusal_of_line line).text) held))

@@ -10,13 +10,15 @@ use Rattle.mspec_tree.specs.declared.defs.Description.{Description}
 use Rattle.mspec_meaning.proofs.TotalLaws.{some_stream}
 use Rattle.script_replay.proofs.ReplyLaws.{some_replies}
 use Rattle.host_engine.specs.declared.inputs.How.{How}
+use Rattle.host_engine.specs.declared.words.FileCommand.{FileCommand}
+use Rattle.host_engine.specs.declared.words.FileCommand.TheVariants.{Check, Print}
 use Rattle.host_engine.specs.FirstForm.{FirstForm}
-use Rattle.host_engine.specs.Texts.{IsTreeOf}
+use Rattle.host_engine.specs.Texts.{Describes}
 use Rattle.host_engine.specs.Lines.{lines_of}
-use Rattle.host_engine.specs.Tool.{AreDecode, ArePrint, AreReplay, ComesTo, Course, IsDecided, IsPositional, Names, Said, Taken, Tool, WordsRefused, FileFault, NoTree, NotBuilt, TypeRefused, Values, Answers, Printed, input_limit, said}
+use Rattle.host_engine.specs.Tool.{AreDecode, AreOverFile, AreReplay, ComesTo, Course, IsDecided, IsPositional, Names, Said, Taken, Tool, WordsRefused, FileFault, TextRefused, NotBuilt, TypeRefused, Values, Answers, Described, command_word, input_limit, said}
 use Rattle.host_engine.proofs.FormLaws.{found_def, form_or_not, one_plain}
 use Rattle.host_engine.proofs.FormReads.{form_reads}
-use Rattle.host_engine.proofs.TextLaws.{tree_or_not}
+use Rattle.host_engine.proofs.TextLaws.{described_or_not}
 
 -- ---- words
 
@@ -67,24 +69,41 @@ replay_or_not (a ∷ []) =
     ]
 replay_or_not (a ∷ b ∷ more) = inr (λ e. absurd (omega (arith, ap length e)))
 
-print_is : (a b name : List ℕ) → a ∷ b ∷ [] ≡ codes "print" ∷ name ∷ [] → (a ≡ codes "print") × (b ≡ name)
-print_is a b name e = (cc, cc)
+over_is : (a b : List ℕ) (command : FileCommand) (name : List ℕ) → a ∷ b ∷ [] ≡ command_word command ∷ name ∷ [] → (a ≡ command_word command) × (b ≡ name)
+over_is a b command name e = (cc, cc)
 
-two_words : (a b : List ℕ) → ((name : List ℕ) × ArePrint (a ∷ b ∷ []) name) ⊎ ((name : List ℕ) → ArePrint (a ∷ b ∷ []) name → ⊥)
+neither : (word : List ℕ) → word ≢ command_word Check → word ≢ command_word Print → (command : FileCommand) → word ≡ command_word command → ⊥
+neither word no_check no_print Check e = no_check e
+neither word no_check no_print Print e = no_print e
+
+-- the word names a command over a file, or none
+command_or_not : (word : List ℕ) → ((command : FileCommand) × (word ≡ command_word command)) ⊎ ((command : FileCommand) → word ≡ command_word command → ⊥)
+command_or_not word =
+    elim (same_or_not word (command_word Check)) [
+      | inl check ↦ inl (Check, check)
+      | inr no_check ↦ elim (same_or_not word (command_word Print)) [ inl print ↦ inl (Print, print) | inr no_print ↦ inr (neither word no_check no_print) ]
+    ]
+
+abbrev OverFileOrNot : List (List ℕ) → Type 0
+OverFileOrNot words =
+    ((command : FileCommand) × (name : List ℕ) × AreOverFile words command name)
+    ⊎ ((command : FileCommand) (name : List ℕ) → AreOverFile words command name → ⊥)
+
+two_words : (a b : List ℕ) → OverFileOrNot (a ∷ b ∷ [])
 two_words a b =
-    elim (same_or_not a (codes "print")) [
-      | inr other ↦ inr (λ name print. other (print_is a b name print.spelled).0)
-      | inl command ↦ elim (positional_or_not b) [
-        | inr other ↦ inr (λ name print. other (subst IsPositional (sym (print_is a b name print.spelled).1) print.file_word))
-        | inl file ↦ inl (b, record { spelled = ap (λ word. word ∷ b ∷ []) command; file_word = file })
+    elim (command_or_not a) [
+      | inr none ↦ inr (λ command name over. none command (over_is a b command name over.spelled).0)
+      | inl found ↦ elim (positional_or_not b) [
+        | inr other ↦ inr (λ command name over. other (subst IsPositional (sym (over_is a b command name over.spelled).1) over.file_word))
+        | inl file ↦ inl (found.0, b, record { spelled = ap (λ word. word ∷ b ∷ []) found.1; file_word = file })
       ]
     ]
 
-print_or_not : (words : List (List ℕ)) → ((name : List ℕ) × ArePrint words name) ⊎ ((name : List ℕ) → ArePrint words name → ⊥)
-print_or_not [] = inr (λ name print. absurd (omega (arith, ap length print.spelled)))
-print_or_not (a ∷ []) = inr (λ name print. absurd (omega (arith, ap length print.spelled)))
-print_or_not (a ∷ b ∷ []) = two_words a b
-print_or_not (a ∷ b ∷ c ∷ more) = inr (λ name print. absurd (omega (arith, ap length print.spelled)))
+over_file_or_not : (words : List (List ℕ)) → OverFileOrNot words
+over_file_or_not [] = inr (λ command name over. absurd (omega (arith, ap length over.spelled)))
+over_file_or_not (a ∷ []) = inr (λ command name over. absurd (omega (arith, ap length over.spelled)))
+over_file_or_not (a ∷ b ∷ []) = two_words a b
+over_file_or_not (a ∷ b ∷ c ∷ more) = inr (λ command name over. absurd (omega (arith, ap length over.spelled)))
 
 -- ---- descriptions
 
@@ -109,7 +128,7 @@ some_values words name kind text bytes how d def decode form named =
     (Values d def s.0 s.1, (name, kind, text, decode, refl, form, named, s.2))
 
 -- what the tree of a file leads to, where the input was left
-some_formed : (words : List (List ℕ)) (name kind text bytes : List ℕ) (how : How) (d : Description) → AreDecode words name kind → IsTreeOf text d → SomeCourse words (record { file = Some text; bytes = bytes; how = Some how })
+some_formed : (words : List (List ℕ)) (name kind text bytes : List ℕ) (how : How) (d : Description) → AreDecode words name kind → Describes text d → SomeCourse words (record { file = Some text; bytes = bytes; how = Some how })
 some_formed words name kind text bytes how d decode tree =
     elim (form_or_not d) [
       | inr out ↦ (NotBuilt, (name, kind, text, d, decode, refl, tree, out))
@@ -122,33 +141,33 @@ some_formed words name kind text bytes how d decode tree =
 some_decoding : (words : List (List ℕ)) (name kind : List ℕ) (file : Option (List ℕ)) (bytes : List ℕ) (how : How) → AreDecode words name kind → SomeCourse words (record { file = file; bytes = bytes; how = Some how })
 some_decoding words name kind None bytes how decode = (FileFault, (name, inl (kind, decode), refl))
 some_decoding words name kind (Some text) bytes how decode =
-    elim (tree_or_not text) [
-      | inr none ↦ (NoTree none.0 none.1, (name, text, inl (kind, decode), refl, none.2))
+    elim (described_or_not text) [
+      | inr none ↦ (TextRefused none.0 none.1, (name, text, inl (kind, decode), refl, none.2))
       | inl tree ↦ some_formed words name kind text bytes how tree.0 decode tree.1
     ]
 
--- printing comes to something, however the input was left
-abbrev SomePrinting : (words : List (List ℕ)) → Option (List ℕ) → Type 0
-SomePrinting words file =
+-- a command over a file comes to something, however the input was left
+abbrev SomeAnswer : (words : List (List ℕ)) → Option (List ℕ) → Type 0
+SomeAnswer words file =
     (course : Course)
     × ((bytes : List ℕ) (how : Option How) → ComesTo words (record { file = file; bytes = bytes; how = how }) course)
     × IsDecided None course
 
-some_printing : (words : List (List ℕ)) (name : List ℕ) (file : Option (List ℕ)) → ArePrint words name → SomePrinting words file
-some_printing words name None print = (FileFault, λ bytes how. (name, inr print, refl), tt)
-some_printing words name (Some text) print =
-    elim (tree_or_not text) [
-      | inr none ↦ (NoTree none.0 none.1, λ bytes how. (name, text, inr print, refl, none.2), tt)
-      | inl tree ↦ (Printed tree.0, λ bytes how. (name, text, print, refl, tree.1), tt)
+some_answer : (words : List (List ℕ)) (command : FileCommand) (name : List ℕ) (file : Option (List ℕ)) → AreOverFile words command name → SomeAnswer words file
+some_answer words command name None over = (FileFault, λ bytes how. (name, inr (command, over), refl), tt)
+some_answer words command name (Some text) over =
+    elim (described_or_not text) [
+      | inr none ↦ (TextRefused none.0 none.1, λ bytes how. (name, text, inr (command, over), refl, none.2), tt)
+      | inl found ↦ (Described command found.0, λ bytes how. (name, text, over, refl, found.1), tt)
     ]
 
 some_other : (words : List (List ℕ)) (file : Option (List ℕ)) (bytes : List ℕ) (how : How) → ((name kind : List ℕ) → AreDecode words name kind → ⊥) → SomeCourse words (record { file = file; bytes = bytes; how = Some how })
 some_other words file bytes how none =
     elim (replay_or_not words) [
       | inl replay ↦ let s = some_replies 1 None (lines_of (Some how) (take input_limit bytes)) in (Answers s.0 s.1, (replay, s.2))
-      | inr other ↦ elim (print_or_not words) [
-        | inl print ↦ let s = some_printing words print.0 file print.1 in (s.0, s.1 bytes (Some how))
-        | inr no_print ↦ (WordsRefused, (none, other, no_print))
+      | inr other ↦ elim (over_file_or_not words) [
+        | inl over ↦ let s = some_answer words over.0 over.1 file over.2 in (s.0, s.1 bytes (Some how))
+        | inr no_other ↦ (WordsRefused, (none, other, no_other))
       ]
     ]
 
@@ -179,7 +198,7 @@ LeadToValues words file =
 abbrev SaidAlone : (words : List (List ℕ)) → Option (List ℕ) → (bytes : List ℕ) → Type 0
 SaidAlone words file bytes = (outcome : Said) × Tool words (record { file = file; bytes = bytes; how = None }) outcome
 
-alone_formed : (words : List (List ℕ)) (name kind text bytes : List ℕ) (d : Description) → AreDecode words name kind → IsTreeOf text d → (LeadToValues words (Some text) → ⊥) → SaidAlone words (Some text) bytes
+alone_formed : (words : List (List ℕ)) (name kind text bytes : List ℕ) (d : Description) → AreDecode words name kind → Describes text d → (LeadToValues words (Some text) → ⊥) → SaidAlone words (Some text) bytes
 alone_formed words name kind text bytes d decode tree none =
     elim (form_or_not d) [
       | inr out ↦ (said None NotBuilt, (NotBuilt, (name, kind, text, d, decode, refl, tree, out), tt, refl))
@@ -192,16 +211,16 @@ alone_formed words name kind text bytes d decode tree none =
 alone_decoding : (words : List (List ℕ)) (name kind : List ℕ) (file : Option (List ℕ)) (bytes : List ℕ) → AreDecode words name kind → (LeadToValues words file → ⊥) → SaidAlone words file bytes
 alone_decoding words name kind None bytes decode none = (said None FileFault, (FileFault, (name, inl (kind, decode), refl), tt, refl))
 alone_decoding words name kind (Some text) bytes decode none =
-    elim (tree_or_not text) [
-      | inr fault ↦ (said None (NoTree fault.0 fault.1), (NoTree fault.0 fault.1, (name, text, inl (kind, decode), refl, fault.2), tt, refl))
+    elim (described_or_not text) [
+      | inr fault ↦ (said None (TextRefused fault.0 fault.1), (TextRefused fault.0 fault.1, (name, text, inl (kind, decode), refl, fault.2), tt, refl))
       | inl tree ↦ alone_formed words name kind text bytes tree.0 decode tree.1 none
     ]
 
 alone_other : (words : List (List ℕ)) (file : Option (List ℕ)) (bytes : List ℕ) → (AreReplay words → ⊥) → ((name kind : List ℕ) → AreDecode words name kind → ⊥) → SaidAlone words file bytes
 alone_other words file bytes other refused =
-    elim (print_or_not words) [
-      | inl print ↦ let s = some_printing words print.0 file print.1 in (said None s.0, (s.0, s.1 bytes None, s.2, refl))
-      | inr no_print ↦ (said None WordsRefused, (WordsRefused, (refused, other, no_print), tt, refl))
+    elim (over_file_or_not words) [
+      | inl over ↦ let s = some_answer words over.0 over.1 file over.2 in (said None s.0, (s.0, s.1 bytes None, s.2, refl))
+      | inr no_other ↦ (said None WordsRefused, (WordsRefused, (refused, other, no_other), tt, refl))
     ]
 
 alone_by : (words : List (List ℕ)) (file : Option (List ℕ)) (bytes : List ℕ) → (AreReplay words → ⊥) → (LeadToValues words file → ⊥) → SaidAlone words file bytes

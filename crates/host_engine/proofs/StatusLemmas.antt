@@ -13,7 +13,9 @@ use Rattle.script_replay.specs.declared.replays.ScriptEnd.{ScriptEnd}
 use Rattle.script_replay.specs.declared.replays.ScriptEnd.TheVariants.{Answered, Refused as LineRefused}
 use Rattle.mspec_tree.specs.declared.words.Place.{Place}
 use Rattle.host_engine.specs.declared.describing.TextWhy.{TextWhy}
-use Rattle.host_engine.specs.Tool.{AreDecode, ArePrint, AreReplay, AreRefused, NamesFile, ComesTo, Course, Said, Taken, Tool, WordsRefused, FileFault, NoTree, NotBuilt, TypeRefused, Values, Answers, Printed, IsDecided, entries_said, last_said, refusal_of_line, script_said, script_last, said}
+use Rattle.host_engine.specs.declared.words.FileCommand.{FileCommand}
+use Rattle.host_engine.specs.Texts.{text_why_text}
+use Rattle.host_engine.specs.Tool.{AreDecode, AreOverFile, AreReplay, AreRefused, NamesFile, ComesTo, Course, Said, Taken, Tool, WordsRefused, FileFault, TextRefused, NotBuilt, TypeRefused, Values, Answers, Described, IsDecided, command_word, description_refused, entries_said, last_said, refusal_of_line, script_said, script_last, said}
 
 -- the statuses of values
 abbrev is_last : ℕ → Bool
@@ -110,7 +112,7 @@ script_said_status next entries =
 course_status : (how : Option How) (course : Course) → is_status (said how course).status ≡ true
 course_status how WordsRefused = refl
 course_status how FileFault = refl
-course_status how (NoTree place why) = refl
+course_status how (TextRefused place why) = refl
 course_status how NotBuilt = refl
 course_status how TypeRefused = refl
 course_status how (Values d def readings (Refused bit why)) = refl
@@ -127,7 +129,7 @@ course_status None (Answers text (Answered next entries)) = script_said_status n
 course_status (Some Ended) (Answers text (Answered next entries)) = script_said_status next entries
 course_status (Some Failed) (Answers text (Answered next entries)) = refl
 course_status (Some Over) (Answers text (Answered next entries)) = refl
-course_status how (Printed d) = refl
+course_status how (Described command d) = refl
 
 -- no run says another status
 pub not_said_by : (words : List (List ℕ)) (t : Taken) (outcome : Said) (s : ℕ) → is_status s ≡ false → Tool words t outcome → s ≡ outcome.status → ⊥
@@ -148,37 +150,37 @@ not_both words name kind decode replay =
 pub words_at_2 : (words : List (List ℕ)) (t : Taken) (course : Course) → ComesTo words t course → (said t.how course).status ≡ 2 → AreRefused words
 words_at_2 words t WordsRefused comes e = comes
 words_at_2 words t FileFault comes e = absurd (omega (arith, e))
-words_at_2 words t (NoTree place why) comes e = absurd (omega (arith, e))
+words_at_2 words t (TextRefused place why) comes e = absurd (omega (arith, e))
 words_at_2 words t NotBuilt comes e = absurd (omega (arith, e))
 words_at_2 words t TypeRefused comes e = absurd (omega (arith, e))
 words_at_2 words t (Values d def readings ending) comes e = absurd (not_last t.how ending 2 refl (sym e))
 words_at_2 words t (Answers text end) comes e = absurd (not_script t.how end 2 refl (sym e))
-words_at_2 words t (Printed d) comes e = absurd (omega (arith, e))
+words_at_2 words t (Described command d) comes e = absurd (omega (arith, e))
 
 -- words of no command name no file
 pub refused_file : (words : List (List ℕ)) (name : List ℕ) → AreRefused words → NamesFile words name → ⊥
 refused_file words name none (inl decode) = none.0 name decode.0 decode.1
-refused_file words name none (inr print) = none.2 name print
+refused_file words name none (inr over) = none.2 over.0 name over.1
 
 pub only_words : (words : List (List ℕ)) (t : Taken) (course : Course) → ComesTo words t course → AreRefused words → (said t.how course).status ≡ 2
 only_words words t WordsRefused comes none = refl
 only_words words t FileFault comes none = absurd (refused_file words comes.0 none comes.1)
-only_words words t (NoTree place why) comes none = absurd (refused_file words comes.0 none comes.2)
+only_words words t (TextRefused place why) comes none = absurd (refused_file words comes.0 none comes.2)
 only_words words t NotBuilt comes none = absurd (none.0 comes.0 comes.1 comes.4)
 only_words words t TypeRefused comes none = absurd (none.0 comes.0 comes.1 comes.4)
 only_words words t (Values d def readings ending) comes none = absurd (none.0 comes.0 comes.1 comes.3)
 only_words words t (Answers text end) comes none = absurd (none.1 comes.0)
-only_words words t (Printed d) comes none = absurd (none.2 comes.0 comes.2)
+only_words words t (Described command d) comes none = absurd (none.2 command comes.0 comes.2)
 
 pub fault_at_3 : (words : List (List ℕ)) (t : Taken) (course : Course) → ComesTo words t course → (said t.how course).status ≡ 3 → (name : List ℕ) × NamesFile words name × (t.file ≡ None)
 fault_at_3 words t WordsRefused comes e = absurd (omega (arith, e))
 fault_at_3 words t FileFault comes e = comes
-fault_at_3 words t (NoTree place why) comes e = absurd (omega (arith, e))
+fault_at_3 words t (TextRefused place why) comes e = absurd (omega (arith, e))
 fault_at_3 words t NotBuilt comes e = absurd (omega (arith, e))
 fault_at_3 words t TypeRefused comes e = absurd (omega (arith, e))
 fault_at_3 words t (Values d def readings ending) comes e = absurd (not_last t.how ending 3 refl (sym e))
 fault_at_3 words t (Answers text end) comes e = absurd (not_script t.how end 3 refl (sym e))
-fault_at_3 words t (Printed d) comes e = absurd (omega (arith, e))
+fault_at_3 words t (Described command d) comes e = absurd (omega (arith, e))
 
 pub rose_at_none : (name : List ℕ) (before after : ShelfSeen) (file : Option (List ℕ)) → file ≡ None → FileSeen name before after file → Rose (before.faults name) (after.faults name)
 rose_at_none name before after None e seen = seen
@@ -195,19 +197,19 @@ no_text file text none some = cc
 -- the words of a script name no file
 pub names_no_script : (words : List (List ℕ)) (name : List ℕ) → NamesFile words name → AreReplay words → ⊥
 names_no_script words name (inl decode) replay = not_both words name decode.0 decode.1 replay
-names_no_script words name (inr print) replay =
-    let same : codes "print" ∷ name ∷ [] ≡ codes "replay" ∷ [] = sym print.spelled ∙ replay in
+names_no_script words name (inr over) replay =
+    let same : command_word over.0 ∷ name ∷ [] ≡ codes "replay" ∷ [] = sym over.1.spelled ∙ replay in
     absurd (omega (arith, ap length same))
 
 pub only_fault : (words : List (List ℕ)) (t : Taken) (name : List ℕ) (course : Course) → ComesTo words t course → NamesFile words name → t.file ≡ None → (said t.how course).status ≡ 3
 only_fault words t name WordsRefused comes names e = absurd (refused_file words name comes names)
 only_fault words t name FileFault comes names e = refl
-only_fault words t name (NoTree place why) comes names e = absurd (no_text t.file comes.1 e comes.3)
+only_fault words t name (TextRefused place why) comes names e = absurd (no_text t.file comes.1 e comes.3)
 only_fault words t name NotBuilt comes names e = absurd (no_text t.file comes.2 e comes.5)
 only_fault words t name TypeRefused comes names e = absurd (no_text t.file comes.2 e comes.5)
 only_fault words t name (Values d def readings ending) comes names e = absurd (no_text t.file comes.2 e comes.4)
 only_fault words t name (Answers text end) comes names e = absurd (names_no_script words name names comes.0)
-only_fault words t name (Printed d) comes names e = absurd (no_text t.file comes.1 e comes.3)
+only_fault words t name (Described command d) comes names e = absurd (no_text t.file comes.1 e comes.3)
 
 last_at_4 : (how : Option How) (ending : Ending) (before after : SourceSeen) (taken : List ℕ) → (last_said how ending).status ≡ 4 → LeftSo how before after taken → Rose before.faults after.faults
 last_at_4 how (Refused bit why) before after taken e left = absurd (omega (arith, e))
@@ -223,12 +225,12 @@ last_at_4 (Some Failed) (TooFew n) before after taken e left = left.1
 pub rose_at_4 : (how : Option How) (course : Course) (before after : SourceSeen) (taken : List ℕ) → (said how course).status ≡ 4 → LeftSo how before after taken → Rose before.faults after.faults
 rose_at_4 how WordsRefused before after taken e left = absurd (omega (arith, e))
 rose_at_4 how FileFault before after taken e left = absurd (omega (arith, e))
-rose_at_4 how (NoTree place why) before after taken e left = absurd (omega (arith, e))
+rose_at_4 how (TextRefused place why) before after taken e left = absurd (omega (arith, e))
 rose_at_4 how NotBuilt before after taken e left = absurd (omega (arith, e))
 rose_at_4 how TypeRefused before after taken e left = absurd (omega (arith, e))
 rose_at_4 how (Values d def readings ending) before after taken e left = last_at_4 how ending before after taken e left
 rose_at_4 how (Answers text end) before after taken e left = script_at_4 how end before after taken e left
-rose_at_4 how (Printed d) before after taken e left = absurd (omega (arith, e))
+rose_at_4 how (Described command d) before after taken e left = absurd (omega (arith, e))
 
 end_at : (how : Option How) (d : _) (def : ℕ) (readings : _) (ending : Ending) (before after : SourceSeen) (taken : List ℕ) → is_end (last_said how ending).status ≡ true → IsDecided how (Values d def readings ending) → LeftSo how before after taken → Rose before.ends after.ends
 end_at how d def readings (Refused bit why) before after taken e decided left = absurd (false≢true e)
@@ -241,28 +243,28 @@ end_at (Some Over) d def readings (TooFew n) before after taken e decided left =
 end_at (Some Failed) d def readings End before after taken e decided left = absurd (false≢true e)
 end_at (Some Failed) d def readings (TooFew n) before after taken e decided left = absurd (false≢true e)
 
--- a run that printed a description
-abbrev pub IsPrinted : Course → Type 0
-IsPrinted (Printed d) = Unit {0}
-IsPrinted other = ⊥
+-- a run that took a description alone
+abbrev pub IsDescribed : Course → Type 0
+IsDescribed (Described command d) = Unit {0}
+IsDescribed other = ⊥
 
-pub printed_by : (words : List (List ℕ)) (t : Taken) (course : Course) → ComesTo words t course → IsPrinted course → (name : List ℕ) × ArePrint words name
-printed_by words t (Printed d) comes is = (comes.0, comes.2)
-printed_by words t other comes is = absurd is
+pub described_by : (words : List (List ℕ)) (t : Taken) (course : Course) → ComesTo words t course → IsDescribed course → (command : FileCommand) × (name : List ℕ) × AreOverFile words command name
+described_by words t (Described command d) comes is = (command, comes.0, comes.2)
+described_by words t other comes is = absurd is
 
-pub printed_not_7 : (how : Option How) (course : Course) → (said how course).status ≡ 7 → IsPrinted course → ⊥
-printed_not_7 how (Printed d) e is = absurd (omega (arith, e))
-printed_not_7 how other e is = absurd is
+pub described_not_7 : (how : Option How) (course : Course) → (said how course).status ≡ 7 → IsDescribed course → ⊥
+described_not_7 how (Described command d) e is = absurd (omega (arith, e))
+described_not_7 how other e is = absurd is
 
-pub ended_at : (how : Option How) (course : Course) (before after : SourceSeen) (taken : List ℕ) → is_end (said how course).status ≡ true → (IsPrinted course → ⊥) → IsDecided how course → LeftSo how before after taken → Rose before.ends after.ends
+pub ended_at : (how : Option How) (course : Course) (before after : SourceSeen) (taken : List ℕ) → is_end (said how course).status ≡ true → (IsDescribed course → ⊥) → IsDecided how course → LeftSo how before after taken → Rose before.ends after.ends
 ended_at how WordsRefused before after taken e other decided left = absurd (false≢true e)
 ended_at how FileFault before after taken e other decided left = absurd (false≢true e)
-ended_at how (NoTree place why) before after taken e other decided left = absurd (false≢true e)
+ended_at how (TextRefused place why) before after taken e other decided left = absurd (false≢true e)
 ended_at how NotBuilt before after taken e other decided left = absurd (false≢true e)
 ended_at how TypeRefused before after taken e other decided left = absurd (false≢true e)
 ended_at how (Values d def readings ending) before after taken e other decided left = end_at how d def readings ending before after taken e decided left
 ended_at how (Answers text end) before after taken e other decided left = script_ended_at how text end before after taken e decided left
-ended_at how (Printed d) before after taken e other decided left = absurd (other tt)
+ended_at how (Described command d) before after taken e other decided left = absurd (other tt)
 
 last_at_13 : (how : Option How) (ending : Ending) → (last_said how ending).status ≡ 13 → how ≡ Some Over
 last_at_13 how (Refused bit why) e = absurd (omega (arith, e))
@@ -284,12 +286,12 @@ script_at_13 (Some Over) (Answered next entries) e = refl
 how_at_13 : (how : Option How) (course : Course) → (said how course).status ≡ 13 → how ≡ Some Over
 how_at_13 how WordsRefused e = absurd (omega (arith, e))
 how_at_13 how FileFault e = absurd (omega (arith, e))
-how_at_13 how (NoTree place why) e = absurd (omega (arith, e))
+how_at_13 how (TextRefused place why) e = absurd (omega (arith, e))
 how_at_13 how NotBuilt e = absurd (omega (arith, e))
 how_at_13 how TypeRefused e = absurd (omega (arith, e))
 how_at_13 how (Values d def readings ending) e = last_at_13 how ending e
 how_at_13 how (Answers text end) e = script_at_13 how end e
-how_at_13 how (Printed d) e = absurd (omega (arith, e))
+how_at_13 how (Described command d) e = absurd (omega (arith, e))
 
 -- an input is too long only where more bytes were taken than count
 pub over_at_13 : (how : Option How) (course : Course) (before after : SourceSeen) (taken : List ℕ) → (said how course).status ≡ 13 → InputTaken before after taken how → InputTaken before after taken (Some Over)
@@ -298,12 +300,12 @@ over_at_13 how course before after taken e input = subst (λ (h : Option How). I
 pub refused_at_12 : (words : List (List ℕ)) (t : Taken) (course : Course) → ComesTo words t course → (said t.how course).status ≡ 12 → ComesTo words t TypeRefused
 refused_at_12 words t WordsRefused comes e = absurd (omega (arith, e))
 refused_at_12 words t FileFault comes e = absurd (omega (arith, e))
-refused_at_12 words t (NoTree place why) comes e = absurd (omega (arith, e))
+refused_at_12 words t (TextRefused place why) comes e = absurd (omega (arith, e))
 refused_at_12 words t NotBuilt comes e = absurd (omega (arith, e))
 refused_at_12 words t TypeRefused comes e = comes
 refused_at_12 words t (Values d def readings ending) comes e = absurd (not_last t.how ending 12 refl (sym e))
 refused_at_12 words t (Answers text end) comes e = absurd (not_script t.how end 12 refl (sym e))
-refused_at_12 words t (Printed d) comes e = absurd (omega (arith, e))
+refused_at_12 words t (Described command d) comes e = absurd (omega (arith, e))
 
 -- what was seen of a file whose bytes were taken
 pub seen_of : (name : List ℕ) (before after : ShelfSeen) (file : Option (List ℕ)) (text : List ℕ) → file ≡ Some text → FileSeen name before after file → FileSeen name before after (Some text)
@@ -311,12 +313,12 @@ seen_of name before after file text e seen = subst (λ (f : Option (List ℕ)). 
 
 -- a description was refused, for its text or for its form
 pub refused_at_1 : (words : List (List ℕ)) (t : Taken) (course : Course) → ComesTo words t course → (said t.how course).status ≡ 1
-    → ((place : Place) × (why : TextWhy) × ComesTo words t (NoTree place why)) ⊎ ComesTo words t NotBuilt
+    → ((place : Place) × (why : TextWhy) × ComesTo words t (TextRefused place why) × (said t.how course ≡ description_refused place (text_why_text why))) ⊎ ComesTo words t NotBuilt
 refused_at_1 words t WordsRefused comes e = absurd (omega (arith, e))
 refused_at_1 words t FileFault comes e = absurd (omega (arith, e))
-refused_at_1 words t (NoTree place why) comes e = inl (place, why, comes)
+refused_at_1 words t (TextRefused place why) comes e = inl (place, why, comes, refl)
 refused_at_1 words t NotBuilt comes e = inr comes
 refused_at_1 words t TypeRefused comes e = absurd (omega (arith, e))
 refused_at_1 words t (Values d def readings ending) comes e = absurd (not_last t.how ending 1 refl (sym e))
 refused_at_1 words t (Answers text end) comes e = absurd (not_script t.how end 1 refl (sym e))
-refused_at_1 words t (Printed d) comes e = absurd (omega (arith, e))
+refused_at_1 words t (Described command d) comes e = absurd (omega (arith, e))

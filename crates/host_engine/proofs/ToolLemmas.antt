@@ -20,7 +20,7 @@ use Rattle.host_engine.specs.Runs.{FileTaken, InputTaken, IsScriptFront}
 use Rattle.script_replay.specs.Replays.{Script}
 use Rattle.script_replay.specs.declared.replays.ScriptEnd.{ScriptEnd}
 use Rattle.host_engine.proofs.StatusLemmas.{names_no_script}
-use Rattle.host_engine.specs.Tool.{AreDecode, AreReplay, Answers, input_limit, script_last, Names, ComesTo, WordsRefused, FileFault, NoTree, NotBuilt, TypeRefused, Values, Printed, Said, Taken, Tool, Course, IsDecided, IsFront, said, listings, last_said, text_so_far}
+use Rattle.host_engine.specs.Tool.{AreDecode, AreReplay, Answers, input_limit, script_last, Names, ComesTo, WordsRefused, FileFault, TextRefused, NotBuilt, TypeRefused, Values, Described, Said, Taken, Tool, Course, IsDecided, IsFront, said, listings, last_said, text_so_far}
 
 next_none : (tape : Option Tape) → AreNext [] tape
 next_none None = tt
@@ -38,7 +38,7 @@ both_ok (Err e) P Q R p q f = tt
 pub refusal_tool : (words : List (List ℕ)) (file : Option (List ℕ)) (r : Refusal) → (r ≡ refusals.NoMemory → ⊥) → ComesToRefusal words file r → Tool words (untaken file) (refusal_said r)
 refusal_tool words file refusals.WordsRefused h comes = (WordsRefused, comes, tt, refl)
 refusal_tool words file refusals.FileFault h comes = (FileFault, comes, tt, refl)
-refusal_tool words file (refusals.NoTree place why) h comes = (NoTree place why, comes, tt, refl)
+refusal_tool words file (refusals.TextRefused place why) h comes = (TextRefused place why, comes, tt, refl)
 refusal_tool words file refusals.NotBuilt h comes = (NotBuilt, comes, tt, refl)
 refusal_tool words file refusals.TypeRefused h comes = (TypeRefused, comes, tt, refl)
 refusal_tool words file refusals.NoMemory h comes = absurd (h refl)
@@ -89,14 +89,14 @@ values_tool words text taken how d def readings ending comes = (Values d def rea
 told_whole : (how : Option How) (course : Course) → IsDecided how course → (said how course).text ≡ text_so_far how course
 told_whole None WordsRefused decided = refl
 told_whole None FileFault decided = refl
-told_whole None (NoTree place why) decided = refl
+told_whole None (TextRefused place why) decided = refl
 told_whole None NotBuilt decided = refl
 told_whole None TypeRefused decided = refl
 told_whole None (Values d def readings End) decided = absurd decided
 told_whole None (Values d def readings (TooFew left)) decided = absurd decided
 told_whole None (Values d def readings (Refused bit why)) decided = refl
 told_whole None (Answers text end) decided = absurd decided
-told_whole None (Printed d) decided = refl
+told_whole None (Described command d) decided = refl
 told_whole (Some left) course decided = refl
 
 -- the text of a run is a front of itself

@@ -14,7 +14,7 @@ use Rattle.mspec_tree.specs.declared.defs.Def.{Def}
 use Rattle.mspec_tree.specs.declared.defs.DefBody.{DefBody}
 use Rattle.mspec_tree.specs.declared.defs.DefBody.TheVariants.{Plain}
 use Rattle.mspec_tree.specs.declared.defs.Description.{Description}
-use Rattle.host_engine.specs.Texts.{IsTreeOf}
+use Rattle.host_engine.specs.Texts.{Describes}
 
 -- ---- fields
 
@@ -71,4 +71,4 @@ is_first_form d = are_first_form d.defs
 
 -- the text has this tree, and it is in the first form
 abbrev pub FirstForm : List ℕ → Description → Type 0
-FirstForm text d = IsTreeOf text d × IsTrue (is_first_form d)
+FirstForm text d = Describes text d × IsTrue (is_first_form d)

@@ -8,10 +8,10 @@ use Rattle.host_engine.specs.declared.faults.Cut.TheVariants.{NoMemory, WriteFau
 use Rattle.host_engine.specs.declared.inputs.How.{How}
 use Rattle.host_engine.specs.declared.inputs.How.TheVariants.{Ended, Failed, Over}
 use Rattle.host_engine.specs.declared.statuses.Status.{Status}
+use Rattle.host_engine.specs.declared.words.FileCommand.{FileCommand}
+use Rattle.host_engine.specs.declared.words.FileCommand.TheVariants.{Check, Print}
 use Rattle.mspec_tree.specs.declared.defs.Description.{Description}
-use Rattle.mspec_lexer.specs.Tokens.{text_of}
 use Rattle.mspec_meaning.specs.Stream.{Ending, Stream}
-use Rattle.mspec_printer.specs.Printed.{printed}
 use Rattle.wire_frames.specs.declared.raw.RawWire.{RawWire}
 use Rattle.conn_core.specs.Journals.{Legal}
 use Rattle.conn_core.specs.States.{State, connection_of}
@@ -21,8 +21,8 @@ use Rattle.script_replay.specs.declared.replays.ScriptEnd.TheVariants.{Answered}
 use Rattle.host_engine.specs.FirstForm.{FirstForm}
 use Rattle.host_engine.specs.Lines.{AreWholeLines, lines_of}
 use Rattle.host_engine.specs.Statuses.{number_of}
-use Rattle.host_engine.specs.Texts.{IsTreeOf}
-use Rattle.host_engine.specs.Tool.{AreDecode, ArePrint, AreReplay, IsFront, Names, NamesFile, Said, Taken, Tool, entries_said, input_limit, last_said, listings}
+use Rattle.host_engine.specs.Texts.{Describes}
+use Rattle.host_engine.specs.Tool.{AreDecode, AreOverFile, AreReplay, IsFront, Names, NamesFile, Said, Taken, Tool, answer_of, entries_said, input_limit, last_said, listings}
 
 -- How the input was left, by its two counts and the bytes that were taken.
 abbrev pub LeftSo : Option How → (before after : SourceSeen) → (taken : List ℕ) → Type 0
@@ -181,15 +181,23 @@ pub record WasReplayed (words : List (List ℕ)) (before after : Shown) : Type 0
   pub first : 1 < next
   pub put_out : after.out.held ≡ after_taking (text ++ (entries_said (length state.journal)).text) before.out.held
 
--- The words are `print`, and the file has a tree, whose printed form is put out.
-pub record WasPrinted (words : List (List ℕ)) (counts_with : List ℕ → List ℕ → Type 0) (before after : Shown) : Type 0 where
+-- The words are this command over a file, whose description is accepted, and what the command says of it is put out.
+pub record WasDescribed (words : List (List ℕ)) (command : FileCommand) (counts_with : List ℕ → List ℕ → Type 0) (before after : Shown) : Type 0 where
   pub file_name : List ℕ
   pub text : List ℕ
   pub d : Description
-  pub are_print : ArePrint words file_name
+  pub are_words : AreOverFile words command file_name
   pub from_files : FileTaken words counts_with before.files after.files (Some text)
-  pub tree : IsTreeOf text d
-  pub put_out : after.out.held ≡ after_taking (text_of (printed d)) before.out.held
+  pub described : Describes text d
+  pub put_out : after.out.held ≡ after_taking (answer_of command d) before.out.held
+
+-- a description was accepted, which is what was put out
+abbrev pub WasChecked : (words : List (List ℕ)) → (counts_with : List ℕ → List ℕ → Type 0) → (before after : Shown) → Type 0
+WasChecked words counts_with before after = WasDescribed words Check counts_with before after
+
+-- the printed form of an accepted description was put out
+abbrev pub WasPrinted : (words : List (List ℕ)) → (counts_with : List ℕ → List ℕ → Type 0) → (before after : Shown) → Type 0
+WasPrinted words counts_with before after = WasDescribed words Print counts_with before after
 
 -- the statuses of a run that stops before it reads its input
 abbrev pub StopsEarly : ℕ → Type 0

@@ -18,8 +18,10 @@ use Rattle.script_replay.specs.declared.replays.ScriptEnd.{ScriptEnd}
 use Rattle.script_replay.specs.declared.replays.ScriptEnd.TheVariants.{Answered, Refused as LineRefused}
 use Rattle.answer_texts.specs.Texts.{read_why_text}
 use Rattle.host_engine.specs.declared.describing.TextWhy.{TextWhy}
+use Rattle.host_engine.specs.declared.words.FileCommand.{FileCommand}
+use Rattle.host_engine.specs.declared.words.FileCommand.TheVariants.{Check, Print}
 use Rattle.host_engine.specs.FirstForm.{FirstForm, is_first_form}
-use Rattle.host_engine.specs.Texts.{IsNoText, IsTreeOf, text_why_text}
+use Rattle.host_engine.specs.Texts.{Describes, IsRefusedText, text_why_text}
 use Rattle.host_engine.specs.Lines.{lines_of}
 use Rattle.host_engine.specs.Listing.{listing, fields_at}
 
@@ -40,21 +42,35 @@ pub record AreDecode (words : List (List ℕ)) (file_name type_name : List ℕ) 
 abbrev pub AreReplay : List (List ℕ) → Type 0
 AreReplay words = words ≡ codes "replay" ∷ []
 
--- the words are `print FILE`, with the name of a file
-pub record ArePrint (words : List (List ℕ)) (file_name : List ℕ) : Type 0 where
-  pub spelled : words ≡ codes "print" ∷ file_name ∷ []
+-- the first word of a command over a file alone
+abbrev pub command_word : FileCommand → List ℕ
+command_word Check = codes "check"
+command_word Print = codes "print"
+
+-- the words are this command and the name of a file
+pub record AreOverFile (words : List (List ℕ)) (command : FileCommand) (file_name : List ℕ) : Type 0 where
+  pub spelled : words ≡ command_word command ∷ file_name ∷ []
   pub file_word : IsPositional file_name
+
+-- the words are `check FILE`, with the name of a file
+abbrev pub AreCheck : (words : List (List ℕ)) → (file_name : List ℕ) → Type 0
+AreCheck words file_name = AreOverFile words Check file_name
+
+-- the words are `print FILE`, with the name of a file
+abbrev pub ArePrint : (words : List (List ℕ)) → (file_name : List ℕ) → Type 0
+ArePrint words file_name = AreOverFile words Print file_name
 
 -- the words name this file
 abbrev pub NamesFile : (words : List (List ℕ)) → (file_name : List ℕ) → Type 0
-NamesFile words file_name = ((type_name : List ℕ) × AreDecode words file_name type_name) ⊎ ArePrint words file_name
+NamesFile words file_name =
+    ((type_name : List ℕ) × AreDecode words file_name type_name) ⊎ ((command : FileCommand) × AreOverFile words command file_name)
 
 -- the words are no command's
 abbrev pub AreRefused : List (List ℕ) → Type 0
 AreRefused words =
     ((file_name type_name : List ℕ) → AreDecode words file_name type_name → ⊥)
     × (AreReplay words → ⊥)
-    × ((file_name : List ℕ) → ArePrint words file_name → ⊥)
+    × ((command : FileCommand) (file_name : List ℕ) → AreOverFile words command file_name → ⊥)
 
 -- ---- the run
 
@@ -74,29 +90,29 @@ pub record Taken : Type 0 where
   pub how : Option How
 
 -- What a run comes to, in the order in which it is tested. The last three are that of the values, up to their end, that of
--- the lines of a script, up to theirs, with the text of their answers, and that of a description that is printed.
+-- the lines of a script, up to theirs, with the text of their answers, and that of a command over a description.
 pub data Course : Type 0 where
   WordsRefused : Course
   FileFault : Course
-  NoTree : (place : Place) (why : TextWhy) → Course
+  TextRefused : (place : Place) (why : TextWhy) → Course
   NotBuilt : Course
   TypeRefused : Course
   Values : (d : Description) (def : ℕ) (readings : List Reading) (ending : Ending) → Course
   Answers : (text : List ℕ) (end : ScriptEnd) → Course
-  Printed : (d : Description) → Course
+  Described : (command : FileCommand) (d : Description) → Course
 
 -- By these words, and what it took, a run comes to this.
 abbrev pub ComesTo : (words : List (List ℕ)) → Taken → Course → Type 0
 ComesTo words t WordsRefused = AreRefused words
 ComesTo words t FileFault = (file_name : List ℕ) × NamesFile words file_name × (t.file ≡ None)
-ComesTo words t (NoTree place why) =
-    (file_name text : List ℕ) × NamesFile words file_name × (t.file ≡ Some text) × IsNoText text place why
+ComesTo words t (TextRefused place why) =
+    (file_name text : List ℕ) × NamesFile words file_name × (t.file ≡ Some text) × IsRefusedText text place why
 ComesTo words t NotBuilt =
     (file_name type_name text : List ℕ)
     × (d : Description)
     × AreDecode words file_name type_name
     × (t.file ≡ Some text)
-    × IsTreeOf text d
+    × Describes text d
     × (is_first_form d ≡ false)
 ComesTo words t TypeRefused =
     (file_name type_name text : List ℕ)
@@ -113,8 +129,8 @@ ComesTo words t (Values d def readings ending) =
     × Names d def type_name
     × Stream d def [] (take input_limit t.bytes) readings ending
 ComesTo words t (Answers text end) = AreReplay words × Script (lines_of t.how (take input_limit t.bytes)) text end
-ComesTo words t (Printed d) =
-    (file_name text : List ℕ) × ArePrint words file_name × (t.file ≡ Some text) × IsTreeOf text d
+ComesTo words t (Described command d) =
+    (file_name text : List ℕ) × AreOverFile words command file_name × (t.file ≡ Some text) × Describes text d
 
 -- ---- texts
 
@@ -179,10 +195,15 @@ script_last None (Answered next entries) = script_said next entries
 abbrev pub listings : Description → ℕ → List Reading → List ℕ
 listings d def readings = flat_map (λ reading. listing (fields_at d def) reading.node) readings
 
+-- what a command says of an accepted description
+abbrev pub answer_of : FileCommand → Description → List ℕ
+answer_of Check d = codes "accepted\n"
+answer_of Print d = text_of (printed d)
+
 abbrev pub said : Option How → Course → Said
 said how WordsRefused = record { text = codes "words refused\n"; status = 2 }
 said how FileFault = record { text = codes "file fault\n"; status = 3 }
-said how (NoTree place why) = description_refused place (text_why_text why)
+said how (TextRefused place why) = description_refused place (text_why_text why)
 said how NotBuilt = record { text = codes "description refused 1:1 NotBuilt\n"; status = 1 }
 said how TypeRefused = record { text = codes "type refused\n"; status = 12 }
 said how (Values d def readings ending) =
@@ -191,7 +212,7 @@ said how (Values d def readings ending) =
       status = (last_said how ending).status;
     }
 said how (Answers text end) = record { text = text ++ (script_last how end).text; status = (script_last how end).status }
-said how (Printed d) = record { text = text_of (printed d); status = 0 }
+said how (Described command d) = record { text = answer_of command d; status = 0 }
 
 -- The run was decided: where values were read and none was refused, and where lines were read, the input ended, failed or
 -- had more bytes than the limit. So no run that was decided has the text of an input that was left before its end, but for

@@ -3,7 +3,7 @@ ghost use Rattle.std.specs.Fmt.{decimal};
 ghost use Rattle.host_engine.specs.Endings.{ending_of, why_of};
 ghost use Rattle.host_engine.specs.Preparing.{refusal_said};
 ghost use Rattle.host_engine.specs.Statuses.{number_of};
-ghost use Rattle.host_engine.specs.Texts.{grammar_why_text, lex_why_text, text_why_text};
+ghost use Rattle.host_engine.specs.Texts.{check_why_text, expr_why_text, grammar_why_text, lex_why_text, text_why_text};
 ghost use Rattle.host_engine.specs.Tool.{why_text, description_refused, last_said, refusal_of_line, script_last};
 
 use crate::describing::TextWhy;
@@ -14,6 +14,8 @@ use crate::statuses::Status;
 use crate::values::{Rest, ValueWhy};
 use answer_texts::read_why_text;
 use itoa::Buffer;
+use mspec_check::CheckWhy;
+use mspec_expr::ExprWhy;
 use mspec_grammar::ParseWhy;
 use mspec_lexer::LexWhy;
 use mspec_tree::Place;
@@ -29,7 +31,7 @@ const READ_FAULT_LINE: &[u8] = b"read fault\n";
 /// The last line where the input has too many bytes.
 const TOO_LONG_LINE: &[u8] = b"input too long\n";
 
-/// The line of a description that has a tree outside the first form.
+/// The line of a description that is outside the first form.
 const NOT_BUILT_LINE: &[u8] = b"description refused 1:1 NotBuilt\n";
 
 fn why_text(why: ValueWhy) -> &'static [u8]
@@ -171,13 +173,46 @@ fn grammar_why_text(why: ParseWhy) -> &'static [u8]
     }
 }
 
-/// The word of why a text has no tree.
+/// The word of what is wrong with an expression.
+fn expr_why_text(why: ExprWhy) -> &'static [u8]
+    ensures { result.now ≡ expr_why_text why }
+{
+    match why {
+        ExprWhy::TooWide => b"TooWide",
+        ExprWhy::DivisorMayBeZero => b"DivisorMayBeZero",
+        ExprWhy::OperandRange => b"OperandRange",
+        ExprWhy::UnknownName => b"UnknownName",
+        ExprWhy::KindMismatch => b"KindMismatch",
+    }
+}
+
+/// The word of what is wrong with a description.
+fn check_why_text(why: CheckWhy) -> &'static [u8]
+    ensures { result.now ≡ check_why_text why }
+{
+    match why {
+        CheckWhy::Expr(why) => expr_why_text(why),
+        CheckWhy::DoubledName => b"DoubledName",
+        CheckWhy::UnknownType => b"UnknownType",
+        CheckWhy::WidthRange => b"WidthRange",
+        CheckWhy::LittleWidth => b"LittleWidth",
+        CheckWhy::ConstRange => b"ConstRange",
+        CheckWhy::SwitchCount => b"SwitchCount",
+        CheckWhy::CaseKey => b"CaseKey",
+        CheckWhy::Arguments => b"Arguments",
+        CheckWhy::PaddingScope => b"PaddingScope",
+        CheckWhy::Limit => b"Limit",
+    }
+}
+
+/// The word of why a text is refused.
 fn text_why_text(why: TextWhy) -> &'static [u8]
     ensures { result.now ≡ text_why_text why }
 {
     match why {
         TextWhy::Lex(why) => lex_why_text(why),
         TextWhy::Grammar(why) => grammar_why_text(why),
+        TextWhy::Rule(why) => check_why_text(why),
     }
 }
 
@@ -209,7 +244,7 @@ fn add_refusal(
     match refusal {
         Refusal::WordsRefused => add_last(gathered, b"words refused\n", Status::WordsRefused),
         Refusal::FileFault => add_last(gathered, b"file fault\n", Status::FileFault),
-        Refusal::NoTree { place, why } => add_last(
+        Refusal::TextRefused { place, why } => add_last(
             gathered,
             &refused_description_line(alloc, place, text_why_text(why))?,
             Status::DescriptionRefused,

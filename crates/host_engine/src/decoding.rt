@@ -1,6 +1,7 @@
 ghost use Rattle.std.specs.Prelude.{◌≡◌, ◌⊎◌, ℕ, List, Ok, Err, IfOk};
 ghost use Rattle.mspec_tree.specs.declared.defs.Description.{Description};
-ghost use Rattle.host_engine.specs.Tool.{ArePrint, AreReplay};
+ghost use Rattle.host_engine.specs.Tool.{AreOverFile, AreReplay};
+ghost use Rattle.host_engine.specs.declared.words.FileCommand.{FileCommand};
 ghost use Rattle.host_engine.specs.Runs.{IsReady, LacksFile, RunsTo, StopsEarly, shown};
 ghost use Rattle.host_engine.specs.Statuses.{number_of};
 
@@ -24,7 +25,7 @@ pub fn decode<F: Shelf, S: Source, K: Sink>(
     gathered: &mut Vec<u8>,
 ) -> Result<Status, Cut>
     requires no_replay { AreReplay words.now → ⊥ }
-    requires no_print { (file_name : List ℕ) → ArePrint words.now file_name → ⊥ }
+    requires no_other { (command : FileCommand) (file_name : List ℕ) → AreOverFile words.now command file_name → ⊥ }
     ensures run { RunsTo words.now F.counts_with
         (shown (F.seen files.old) (S.seen input.old) (K.seen out.old))
         (shown (F.seen files.new) (S.seen input.new) (K.seen out.new)) gathered.old.items gathered.new.items result }
@@ -44,7 +45,7 @@ pub fn decode<F: Shelf, S: Source, K: Sink>(
         alloc,
         out,
         gathered,
-        &ready.description,
+        ready.checked.description(),
         ready.def,
         &capture.bytes[..counted],
     )?;

@@ -1,11 +1,12 @@
-//! Descriptions as texts: their trees, and which trees are in the first form.
+//! Descriptions as texts: whether they are accepted, and which of these are in the first form.
 
 ghost use Rattle.std.specs.Prelude.{◌≡◌, IfOk, IfErr, nat_le, length};
 ghost use Rattle.std.specs.List.{list_all};
 ghost use Rattle.mspec_tree.specs.declared.fields.Body.{out-Body};
 ghost use Rattle.host_engine.specs.FirstForm.{are_first_form, are_plain_fields, has_plain_fields, is_first_form, is_plain_body, is_plain_def, is_plain_field, is_plain_number, is_plain_ref, is_taken, is_width, names_differ};
-ghost use Rattle.host_engine.specs.Texts.{IsNoText, IsTreeOf, OfTextFault, from_lex, from_parse};
+ghost use Rattle.host_engine.specs.Texts.{Describes, IsRefusedText, OfTextFault, from_check, from_lex, from_parse};
 
+use mspec_check::{CheckFault, CheckWhy, Checked, check};
 use mspec_grammar::ParseWhy;
 use mspec_lexer::{LexFault, LexWhy, lex};
 use mspec_parser::{ParseFault, parse};
@@ -15,14 +16,15 @@ use std::alloc::Global;
 /// The most fields of a type in the first form.
 const MAX_FIELDS: usize = 256;
 
-/// Why a text has no tree: it has no tokens, or these leave the grammar.
+/// Why a text is that of no accepted description: it has no tokens, or these leave the grammar, or its tree breaks a rule.
 #[derive(Clone, Copy, Debug, PartialEq, Eq)]
 pub enum TextWhy {
     Lex(LexWhy),
     Grammar(ParseWhy),
+    Rule(CheckWhy),
 }
 
-/// Why no tree was made of a text: the place at which it leaves the language, or want of memory.
+/// Why a text wasn't accepted: the place at which it is refused, or want of memory.
 #[derive(Clone, Copy, Debug, PartialEq, Eq)]
 pub enum TextFault {
     At { place: Place, why: TextWhy },
@@ -57,14 +59,29 @@ impl From<ParseFault> for TextFault {
     }
 }
 
-/// The tree of a text.
-pub fn tree_of(alloc: Global, text: &[u8]) -> Result<Description, TextFault>
-    ensures tree { IfOk result (λ d. IsTreeOf text.now d) }
-    ensures fault { IfErr result (λ e. OfTextFault e (λ place why. IsNoText text.now place why)) }
+impl From<CheckFault> for TextFault {
+    ghost from_gives = { λ fault e. e ≡ from_check fault };
+
+    fn from(fault: CheckFault) -> TextFault {
+        match fault {
+            CheckFault::At { place, why } => TextFault::At {
+                place,
+                why: TextWhy::Rule(why),
+            },
+            CheckFault::NoMemory => TextFault::NoMemory,
+        }
+    }
+}
+
+/// The description of a text, which is accepted, or the first of what refuses it: no tokens, no tree, a rule that is broken.
+pub fn description_of(alloc: Global, text: &[u8]) -> Result<Checked, TextFault>
+    ensures described { IfOk result (λ d. Describes text.now d) }
+    ensures fault { IfErr result (λ e. OfTextFault e (λ place why. IsRefusedText text.now place why)) }
 {
     let tokens = lex(alloc, text)?;
     let description = parse(alloc, text, &tokens)?;
-    Ok(description)
+    let checked = check(alloc, description)?;
+    Ok(checked)
 }
 
 fn is_width(width: u8) -> bool

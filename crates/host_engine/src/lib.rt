@@ -5,6 +5,7 @@ mod closing;
 mod decoding;
 mod describing;
 mod faults;
+mod file_commands;
 mod files;
 mod inputs;
 mod lines;
@@ -15,7 +16,6 @@ mod replaying;
 mod replies;
 mod statuses;
 mod tool;
-mod tree_printing;
 mod values;
 mod words;
 

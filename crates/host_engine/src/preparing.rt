@@ -3,33 +3,35 @@ ghost use Rattle.std.specs.List.{position};
 ghost use Rattle.std.specs.Str.{bytes_eq};
 ghost use Rattle.link_io.specs.Streams.{LeavesFiles};
 ghost use Rattle.mspec_tree.specs.declared.defs.Description.{Description};
-ghost use Rattle.host_engine.specs.Texts.{IsTreeOf};
-ghost use Rattle.host_engine.specs.Tool.{ArePrint, AreReplay, Names};
+ghost use Rattle.host_engine.specs.Texts.{Describes};
+ghost use Rattle.host_engine.specs.Tool.{AreOverFile, AreReplay, Names};
+ghost use Rattle.host_engine.specs.declared.words.FileCommand.{FileCommand};
 ghost use Rattle.host_engine.specs.Runs.{FileSeen, FileTaken, IsReady, LacksFile};
 ghost use Rattle.host_engine.specs.Preparing.{ComesToRefusal, IsRefusedFile, from_file, from_text};
 
-use crate::describing::{TextFault, TextWhy, is_first_form, tree_of};
+use crate::describing::{TextFault, TextWhy, description_of, is_first_form};
 use crate::files::{FileFault, read_file};
 use crate::words::decode_words;
 use link_io::{Shelf, StringList};
-use mspec_tree::{Def, Description, Place};
+use mspec_check::Checked;
+use mspec_tree::{Def, Place};
 use std::alloc::Global;
 
-/// What a run needs before it reads its input: a description, and the place of the type in it.
+/// What a run needs before it reads its input: an accepted description, and the place of the type in it.
 #[derive(Debug, Drop)]
 pub struct Prepared {
-    pub description: Description,
+    pub checked: Checked,
     pub def: u16,
 }
 
-/// Why a run stops before it reads its input or prints.
+/// Why a run stops before it reads its input or speaks of a description.
 #[derive(Clone, Copy, Debug, PartialEq, Eq)]
 pub enum Refusal {
     WordsRefused,
     FileFault,
-    /// The file's text has no tree: at this place it leaves the language.
-    NoTree { place: Place, why: TextWhy },
-    /// The file's text has a tree outside the first form.
+    /// The file's text isn't that of an accepted description: at this place it is refused.
+    TextRefused { place: Place, why: TextWhy },
+    /// The file's description is outside the first form.
     NotBuilt,
     TypeRefused,
     NoMemory,
@@ -44,24 +46,24 @@ fn place_of(defs: &[Def], name: &[u8]) -> Option<usize>
 }
 
 /// The place of the definition of a name.
-fn def_named(d: &Description, name: &[u8]) -> Option<u16>
-    requires { length d.now.defs ≤ 1024 }
+fn def_named(checked: &Checked, name: &[u8]) -> Option<u16>
+    requires { length checked.now.defs ≤ 1024 }
     ensures { MatchOption result
-        ((def : ℕ) → Names d.now def name.now → ⊥)
-        (λ def. Names d.now def name.now) }
+        ((def : ℕ) → Names checked.now def name.now → ⊥)
+        (λ def. Names checked.now def name.now) }
 {
-    place_of(d.defs.as_slice(), name).map(|place| place as u16)
+    place_of(checked.description().defs.as_slice(), name).map(|place| place as u16)
 }
 
-/// Reads the description in the file of a name.
+/// Reads the description in the file of a name, which is accepted.
 pub fn read_description<F: Shelf>(
     alloc: Global,
     files: &mut F,
     name: &str,
-) -> Result<Description, Refusal>
-    ensures tree { IfOk result (λ d. (text : List ℕ)
+) -> Result<Checked, Refusal>
+    ensures described { IfOk result (λ d. (text : List ℕ)
         × FileSeen name.now (F.seen files.old) (F.seen files.new) (Some text)
-        × IsTreeOf text d) }
+        × Describes text d) }
     ensures others { (other : List ℕ) → (F.counts_with name.now other → ⊥)
         → (F.seen files.new).faults other ≡ (F.seen files.old).faults other }
     ensures files { LeavesFiles (F.seen files.old) (F.seen files.new) }
@@ -71,8 +73,8 @@ pub fn read_description<F: Shelf>(
         × IsRefusedFile file refusal) }
 {
     let text = read_file(alloc, files, name)?;
-    let description = tree_of(alloc, &text)?;
-    Ok(description)
+    let checked = description_of(alloc, &text)?;
+    Ok(checked)
 }
 
 /// Reads the file that the words name and finds their type in it.
@@ -82,9 +84,9 @@ pub fn prepare<F: Shelf>(
     files: &mut F,
 ) -> Result<Prepared, Refusal>
     requires no_replay { AreReplay words.now → ⊥ }
-    requires no_print { (file_name : List ℕ) → ArePrint words.now file_name → ⊥ }
+    requires no_other { (command : FileCommand) (file_name : List ℕ) → AreOverFile words.now command file_name → ⊥ }
     ensures ready { IfOk result (λ ready.
-        IsReady words.now F.counts_with (F.seen files.old) (F.seen files.new) ready.description ready.def) }
+        IsReady words.now F.counts_with (F.seen files.old) (F.seen files.new) ready.checked ready.def) }
     ensures files { LeavesFiles (F.seen files.old) (F.seen files.new) }
     ensures lacking { LacksFile words.now (F.seen files.old) → result ≡ Err Refusal.FileFault }
     ensures refused { IfErr result (λ refusal. (file : Option (List ℕ))
@@ -94,12 +96,12 @@ pub fn prepare<F: Shelf>(
     let Some(found) = decode_words(words) else {
         return Err(Refusal::WordsRefused);
     };
-    let description = read_description(alloc, files, found.file_name)?;
-    if !is_first_form(&description) {
+    let checked = read_description(alloc, files, found.file_name)?;
+    if !is_first_form(checked.description()) {
         return Err(Refusal::NotBuilt);
     }
-    match def_named(&description, found.type_name) {
-        Some(def) => Ok(Prepared { description, def }),
+    match def_named(&checked, found.type_name) {
+        Some(def) => Ok(Prepared { checked, def }),
         None => Err(Refusal::TypeRefused),
     }
 }
@@ -120,7 +122,7 @@ impl From<TextFault> for Refusal {
 
     fn from(fault: TextFault) -> Refusal {
         match fault {
-            TextFault::At { place, why } => Refusal::NoTree { place, why },
+            TextFault::At { place, why } => Refusal::TextRefused { place, why },
             TextFault::NoMemory => Refusal::NoMemory,
         }
     }

@@ -5,7 +5,7 @@ ghost use Rattle.host_engine.specs.Statuses.{number_of};
 #[derive(Clone, Copy, Debug, PartialEq, Eq)]
 pub enum Status {
     Well,
-    /// The file's text has no tree, or one that is outside the first form where values are to be read.
+    /// The file's text isn't that of an accepted description, or of one outside the first form where values are to be read.
     DescriptionRefused,
     WordsRefused,
     FileFault,

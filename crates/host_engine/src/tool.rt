@@ -10,20 +10,21 @@ ghost use Rattle.script_replay.specs.declared.replays.ScriptEnd.{ScriptEnd};
 ghost use Rattle.host_engine.specs.declared.describing.TextWhy.{TextWhy};
 ghost use Rattle.host_engine.specs.FirstForm.{FirstForm, is_first_form};
 ghost use Rattle.host_engine.specs.Lines.{lines_of};
-ghost use Rattle.host_engine.specs.Runs.{FileSeen, InputTaken, IsCountedWithFile, IsReady, IsRun, LacksFile, PutsFront, RunsTo, StopsEarly, WasDecoded, WasPrinted, WasReplayed, last_of, shown};
+ghost use Rattle.host_engine.specs.Runs.{FileSeen, InputTaken, IsCountedWithFile, IsReady, IsRun, LacksFile, PutsFront, RunsTo, StopsEarly, WasChecked, WasDecoded, WasPrinted, WasReplayed, last_of, shown};
 ghost use Rattle.host_engine.specs.Statuses.{number_of};
-ghost use Rattle.host_engine.specs.Texts.{IsNoText, IsTreeOf};
+ghost use Rattle.host_engine.specs.Texts.{Describes, IsRefusedText, text_why_text};
 ghost use Rattle.host_engine.specs.Told.{IsTold, NoneFailed, TellsScript, TellsValues};
-ghost use Rattle.host_engine.specs.Tool.{AreDecode, ArePrint, AreRefused, AreReplay, Names, NamesFile, Said, Taken, Tool, input_limit, refusal_of_line, refused_line};
+ghost use Rattle.host_engine.specs.Tool.{AreCheck, AreDecode, AreOverFile, ArePrint, AreRefused, AreReplay, Names, NamesFile, Said, Taken, Tool, description_refused, input_limit, refusal_of_line, refused_line};
+ghost use Rattle.host_engine.specs.declared.words.FileCommand.{FileCommand};
 ghost use Rattle.host_engine.specs.declared.inputs.How.{How};
 
 use crate::decoding::decode;
 use crate::faults::Cut;
+use crate::file_commands::answer;
 use crate::printing::put_all;
 use crate::replaying::replay;
 use crate::statuses::Status;
-use crate::tree_printing::print;
-use crate::words::{is_replay, print_words};
+use crate::words::{file_words, is_replay};
 use link_io::{Failed, Shelf, Sink, Source, StringList};
 use std::alloc::Global;
 
@@ -67,13 +68,14 @@ fn run<F: Shelf, S: Source, K: Sink>(
     ensures touched { (input.new ≡ input.old) ⊎ ((d : Description) × (def : ℕ)
         × IsReady words.now F.counts_with (F.seen files.old) (F.seen files.new) d def) ⊎ AreReplay words.now }
     ensures untouched { IfOk result (λ status. StopsEarly (number_of status) → input.new ≡ input.old) }
-    ensures print_leaves_input { (file_name : List ℕ) → ArePrint words.now file_name → input.new ≡ input.old }
+    ensures file_alone { (command : FileCommand) (file_name : List ℕ) → AreOverFile words.now command file_name
+        → input.new ≡ input.old }
 {
     if is_replay(words) {
         replay(alloc, input, out, gathered)
     } else {
-        match print_words(words) {
-            Some(name) => print(alloc, files, name, gathered),
+        match file_words(words) {
+            Some(found) => answer(alloc, files, found.command, found.file_name, gathered),
             None => decode(alloc, words, files, input, out, gathered),
         }
     }
@@ -137,8 +139,8 @@ pub fn conclude<K: Sink>(out: &mut K, gathered: &[u8], ran: Result<Status, Cut>)
 ///
 /// `decode FILE TYPE`: FILE names a description in the first form, and the input is read as values of TYPE one after
 /// another, each put out as its listing and an empty line. `replay`: the input is a script, and each line but the first is put
-/// out as its answer, and at the end how many entries the journal has. `print FILE`: FILE names a
-/// description, whose printed form is put out.
+/// out as its answer, and at the end how many entries the journal has. `check FILE` and `print FILE`: FILE names a
+/// description, and that it is accepted, or its printed form, is put out. No command takes a description that isn't accepted.
 pub fn tool_main<F: Shelf, S: Source, K: Sink>(
     alloc: Global,
     words: &StringList,
@@ -156,16 +158,26 @@ pub fn tool_main<F: Shelf, S: Source, K: Sink>(
         × IsReady words.now F.counts_with (F.seen files.old) (F.seen files.new) d def) ⊎ AreReplay words.now }
     ensures untouched { StopsEarly result → input.new ≡ input.old }
     ensures print_leaves_input { (file_name : List ℕ) → ArePrint words.now file_name → input.new ≡ input.old }
+    ensures check_leaves_input { (file_name : List ℕ) → AreCheck words.now file_name → input.new ≡ input.old }
 
     // The words are refused where they aren't those of a command, and nowhere else.
     ensures words_refused { result ≡ 2 → AreRefused words.now }
     ensures only_commands { AreRefused words.now → (result ≡ 2) ⊎ ((result ≡ 5) ⊎ (result ≡ 8)) }
-    // The text has no tree, or values are to be read by it and it has a tree outside the first form, or no type of that name.
+    // A description is refused where the text is that of no accepted one, and what is put out says the place and why. It is
+    // refused nowhere else, but where values are to be read by one that is outside the first form.
     ensures description_refused { result ≡ 1 → (file_name text : List ℕ) × NamesFile words.now file_name
         × FileSeen file_name (F.seen files.old) (F.seen files.new) (Some text)
-        × (((place : Place) × (why : TextWhy) × IsNoText text place why)
+        × (((place : Place) × (why : TextWhy) × IsRefusedText text place why
+        × ((d : Description) → Describes text d → ⊥)
+        × ((K.seen out.new).held ≡ after_taking (description_refused place (text_why_text why)).text (K.seen out.old).held))
         ⊎ ((type_name : List ℕ) × (d : Description) × AreDecode words.now file_name type_name
-        × IsTreeOf text d × (is_first_form d ≡ false))) }
+        × Describes text d × (is_first_form d ≡ false))) }
+    ensures none_accepted { (file_name text : List ℕ) → NamesFile words.now file_name
+        → (F.seen files.old).file file_name ≡ Some text
+        → (Rose ((F.seen files.old).faults file_name) ((F.seen files.new).faults file_name) → ⊥)
+        → ((d : Description) → Describes text d → ⊥)
+        → (result ≡ 1) ⊎ ((result ≡ 5) ⊎ (result ≡ 8)) }
+    // There is no type of that name.
     ensures type_refused { result ≡ 12 → (file_name type_name text : List ℕ) × (d : Description)
         × AreDecode words.now file_name type_name
         × FileSeen file_name (F.seen files.old) (F.seen files.new) (Some text)
@@ -183,14 +195,15 @@ pub fn tool_main<F: Shelf, S: Source, K: Sink>(
     ensures other_files { (other : List ℕ) → (IsCountedWithFile F.counts_with words.now other → ⊥)
         → (F.seen files.new).faults other ≡ (F.seen files.old).faults other }
     // A read fault comes only where the input's count rose. The input is too long only where one byte more than the limit was
-    // taken of it. It ended where all is well or truncated, but where a description was printed.
+    // taken of it. It ended where all is well or truncated, but where a description alone was asked for.
     ensures read_fault { result ≡ 4 → Rose (S.seen input.old).faults (S.seen input.new).faults }
     ensures too_long { result ≡ 13 → (taken : List ℕ)
         × InputTaken (S.seen input.old) (S.seen input.new) taken (Some How.Over) }
-    ensures read_to_end { ((result ≡ 0) × ((file_name : List ℕ) → ArePrint words.now file_name → ⊥)) ⊎ (result ≡ 7)
+    ensures read_to_end { ((result ≡ 0) × ((command : FileCommand) (file_name : List ℕ)
+        → AreOverFile words.now command file_name → ⊥)) ⊎ (result ≡ 7)
         → Rose (S.seen input.old).ends (S.seen input.new).ends }
-    // All is well where the input is values, to its last byte, or a script, or a description was printed; the input is
-    // truncated where it ends inside a value.
+    // All is well where the input is values, to its last byte, or a script, or a description was printed, or accepted; the
+    // input is truncated where it ends inside a value.
     ensures all_well { result ≡ 0 →
         WasDecoded words.now F.counts_with
         (shown (F.seen files.old) (S.seen input.old) (K.seen out.old))
@@ -199,6 +212,9 @@ pub fn tool_main<F: Shelf, S: Source, K: Sink>(
         (shown (F.seen files.old) (S.seen input.old) (K.seen out.old))
         (shown (F.seen files.new) (S.seen input.new) (K.seen out.new))
         ⊎ WasPrinted words.now F.counts_with
+        (shown (F.seen files.old) (S.seen input.old) (K.seen out.old))
+        (shown (F.seen files.new) (S.seen input.new) (K.seen out.new))
+        ⊎ WasChecked words.now F.counts_with
         (shown (F.seen files.old) (S.seen input.old) (K.seen out.old))
         (shown (F.seen files.new) (S.seen input.new) (K.seen out.new)) }
     ensures truncated { result ≡ 7 → (left : ℕ) × WasDecoded words.now F.counts_with
@@ -223,7 +239,12 @@ pub fn tool_main<F: Shelf, S: Source, K: Sink>(
         (shown (F.seen files.new) (S.seen input.new) (K.seen out.new))
         → (result ≡ 0) ⊎ (result ≡ 8) }
     ensures print_ends_well { (file_name text : List ℕ) (d : Description) → ArePrint words.now file_name
-        → (F.seen files.old).file file_name ≡ Some text → IsTreeOf text d
+        → (F.seen files.old).file file_name ≡ Some text → Describes text d
+        → (Rose ((F.seen files.old).faults file_name) ((F.seen files.new).faults file_name) → ⊥)
+        → (Rose (K.seen out.old).faults (K.seen out.new).faults → ⊥)
+        → (result ≡ 0) ⊎ (result ≡ 8) }
+    ensures check_ends_well { (file_name text : List ℕ) (d : Description) → AreCheck words.now file_name
+        → (F.seen files.old).file file_name ≡ Some text → Describes text d
         → (Rose ((F.seen files.old).faults file_name) ((F.seen files.new).faults file_name) → ⊥)
         → (Rose (K.seen out.old).faults (K.seen out.new).faults → ⊥)
         → (result ≡ 0) ⊎ (result ≡ 8) }

@@ -1,5 +1,5 @@
 ghost use Rattle.std.specs.Prelude.{◌≡◌, ◌≤◌, ◌↔◌, ◌+◌, length, min, None, Some, IfOk, IsTrue, OnOk};
-ghost use Rattle.std.specs.Io.KnownBytes.{ReadConsumes};
+ghost use Rattle.std.specs.Io.KnownBytes.{Keeps, ReadConsumes};
 ghost use Rattle.std.specs.String.{string_bytes, string_capacity};
 ghost use Rattle.link_io.specs.Counts.{top};
 
@@ -117,6 +117,12 @@ impl<F: Read + Seek> Opened<F> {
         // Where the file tells its bytes and lies at this position, they are the next, and 0 comes only at its end.
         ensures bytes { from ≡ self.old.position →
             ReadConsumes (F.remaining self.old.file) (F.remaining self.new.file) result to.new }
+        // Where the file tells where it lies, it is read at `from`: it lay there before the read, with all its bytes, and what was
+        // read is what it had there.
+        ensures sought { F.stream_position self.old.file ≡ Some self.old.position → OnOk result ((there : F)
+            × (F.stream_position there ≡ Some from)
+            × Keeps (F.stream_bytes self.old.file) (F.stream_bytes there)
+            × ReadConsumes (F.remaining there) (F.remaining self.new.file) result to.new) }
     {
         self.seek_to(from)?;
         let count = read_retrying(&mut self.file, to)?;
@@ -130,6 +136,7 @@ impl<F: Read + Seek> Opened<F> {
         ensures lies { F.stream_position self.old.file ≡ Some self.old.position
             → OnOk result (F.stream_position self.new.file ≡ Some from) }
         ensures stays { from ≡ self.old.position → self.new ≡ self.old }
+        ensures bytes { Keeps (F.stream_bytes self.old.file) (F.stream_bytes self.new.file) }
     {
         if from != self.position {
             self.file.seek(SeekFrom::Start(from))?;

@@ -40,21 +40,16 @@ const IN_THE_FORM: [(&[u8], &[u8], &[u8]); 10] = [
     ),
 ];
 
-/// Texts whose tree is outside the form.
-const OUTSIDE_THE_FORM: [&[u8]; 18] = [
+/// Texts of accepted descriptions outside the form.
+const OUTSIDE_THE_FORM: [&[u8]; 13] = [
     b"",
     b" \n",
     b"[type P]",
     b"[type P ]",
     b"[type P [simple uint 8 a]] [type Q [simple uint 8 a]]",
-    b"[type P [simple uint 8 a] [simple uint 16 b] [simple uint 32 a]]",
     b"[type P [simple uint 12 a]]",
-    b"[type P [simple uint 0 a]]",
-    b"[type P [simple uint 264 a]]",
     b"[type P [simple int 8 a]]",
     b"[type P [simple bit a]]",
-    b"[type P [simple Q a]]",
-    b"[type P [simple uint8 a]]",
     b"[type P [const uint 8 a 1]]",
     b"[type P [simple uint 8 a byteOrder='BIG_ENDIAN']]",
     b"[type P byteOrder='BIG_ENDIAN' [simple uint 8 a]]",
@@ -94,7 +89,7 @@ fn texts_in_the_first_form_are_decoded_by(rt: HostRuntime) -> Result<(), Fail> {
 }
 
 #[test]
-fn a_tree_outside_the_first_form_is_not_built(rt: HostRuntime) -> Result<(), Fail> {
+fn a_description_outside_the_first_form_is_not_built(rt: HostRuntime) -> Result<(), Fail> {
     for text in OUTSIDE_THE_FORM {
         let ran = decoded(rt.alloc(), text, b"\x01", 100)?;
         let want: &[u8] = b"description refused 1:1 NotBuilt\n";

@@ -1,7 +1,9 @@
 //! The program `plchost`: it decodes captures by descriptions in the first form of mspec, the language of Apache PLC4X's
-//! protocol descriptions, prints descriptions, and runs scripts of the request table. It compiles nothing yet.
+//! protocol descriptions, checks and prints descriptions, and runs scripts of the request table. It compiles nothing yet.
 #![tactic(auto)]
 
+#[cfg(test)]
+mod check_tests;
 #[cfg(test)]
 mod form_tests;
 #[cfg(test)]
@@ -13,9 +15,11 @@ mod script_tests;
 #[cfg(test)]
 mod tests;
 
-ghost use Rattle.std.specs.Prelude.{◌≡◌, ◌⊎◌, [], Ok, IfOk, IfErr};
+ghost use Rattle.std.specs.Prelude.{◌≡◌, ◌≢◌, ◌⊎◌, [], codes, Ok, IfOk, IfErr};
 ghost use Rattle.std.specs.Process.{exit_status};
-ghost use Rattle.host_engine.specs.Runs.{IsRun, shown};
+ghost use Rattle.link_io.specs.Counts.{Rose};
+ghost use Rattle.link_io.specs.Streams.{after_taking};
+ghost use Rattle.host_engine.specs.Runs.{IsRun, PutsFront, shown};
 
 use host_engine::{Cut, conclude, tool_main};
 use link_io::{FileShelf, Shelf, Sink, Source, StdSink, StdSource, StringList};
@@ -70,7 +74,13 @@ fn run_process<F: Shelf, S: Source, K: Sink>(
 
 /// The end of a process that has no memory for its words and its files.
 fn end_without_memory<K: Sink>(out: &mut K) -> ExitCode
-    ensures { (exit_status result ≡ 8) ⊎ (exit_status result ≡ 5) }
+    ensures status { (exit_status result ≡ 8) ⊎ (exit_status result ≡ 5) }
+    ensures said { exit_status result ≢ 5
+        → ((K.seen out.new).held ≡ after_taking (codes "no memory\n") (K.seen out.old).held)
+        × ((K.seen out.new).faults ≡ (K.seen out.old).faults) }
+    ensures cut { exit_status result ≡ 5
+        → PutsFront (K.seen out.old).held (K.seen out.new).held (codes "no memory\n")
+        × Rose (K.seen out.old).faults (K.seen out.new).faults }
 {
     ExitCode::from(conclude(out, &[], Err(Cut::NoMemory)))
 }

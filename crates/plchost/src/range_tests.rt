@@ -10,7 +10,8 @@ use std::alloc::{AllocError, Global};
 use std::fmt::Write;
 use std::test::Fail;
 
-const NOT_BUILT: &str = "description refused 1:1 NotBuilt\n";
+/// The 257th field stands at this place.
+const TOO_MANY_FIELDS: &str = "description refused 1:5275 Limit\n";
 
 const TEXT_TOO_LONG: &str = "description refused 1:1 TextTooLong\n";
 
@@ -43,7 +44,7 @@ fn a_type_has_up_to_256_fields(rt: HostRuntime) -> Result<(), Fail> {
         let want = if status == 0 {
             listing.as_str()
         } else {
-            NOT_BUILT
+            TOO_MANY_FIELDS
         };
         let input = sevens.get(..count as usize).ok_or("short")?;
         let ran = decoded(rt.alloc(), text.as_bytes(), input, 100_000)?;

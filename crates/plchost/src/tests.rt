@@ -166,7 +166,7 @@ fn an_output_of_more_bytes_than_are_gathered_is_whole(rt: HostRuntime) -> Result
 }
 
 /// Words that are no command's.
-const REFUSED_WORDS: [&[&str]; 17] = [
+const REFUSED_WORDS: [&[&str]; 21] = [
     &[],
     &["replay", "p"],
     &["replays"],
@@ -184,6 +184,10 @@ const REFUSED_WORDS: [&[&str]; 17] = [
     &["print", ""],
     &["print", "-p"],
     &["Print", "p"],
+    &["check"],
+    &["check", "p", "P"],
+    &["check", ""],
+    &["check", "p", "--x=1"],
 ];
 
 #[test]

@@ -1,12 +1,15 @@
-use Rattle.std.proofs.Common.{rules, ◌≡◌, [], ◌++◌, take, min, Some, vec_len, inl, refl, ap, ◌∙◌}
+use Rattle.std.proofs.Common.{rules, ◌≡◌, [], ◌++◌, take, min, Some, vec_len, inl, refl, ap, sym, subst, ◌∙◌}
 use Rattle.std.proofs.lemmas.Result.{err_from_is_err_and, IfErr-at_err, IfErr-weaker, IfOk-weaker}
 use Rattle.host_engine.specs.declared.faults.Cut.TheVariants.{NoMemory}
 use Rattle.host_engine.specs.declared.preparing.Refusal.{Refusal}
 use Rattle.host_engine.specs.declared.preparing.Refusal.TheVariants.{FileFault}
+use Rattle.mspec_tree.specs.declared.defs.Description.{Description}
+use Rattle.mspec_meaning.specs.Plain.{CanRead}
 use Rattle.host_engine.specs.Endings.{ending_of}
+use Rattle.host_engine.specs.FirstForm.{FirstForm}
 use Rattle.host_engine.specs.Preparing.{refusal_said, untaken}
 use Rattle.host_engine.specs.Statuses.{number_of}
-use Rattle.host_engine.specs.Tool.{listings, last_said, said, Values}
+use Rattle.host_engine.specs.Tool.{Names, listings, last_said, said, Values}
 use Rattle.host_engine.proofs.FormReads.{form_reads}
 use Rattle.host_engine.proofs.RunLemmas.{Adds-more, Adds-same, Adds-nothing, Adds-gathered}
 use Rattle.host_engine.proofs.ToolLemmas.{untouched, both_ok, refusal_tool, decoded, comes_to_values, front_of_values, front_before_last, taken_so, values_tool}
@@ -52,14 +55,17 @@ returns-in_err-capture-clause-run g c =
 pub put_values-requires-clause-can : goal.put_values-requires-clause-can
 put_values-requires-clause-can g c =
     let ready = c.in-Ok.ensures.ready in
-    form_reads ready.2 c.in-Ok.ready.description c.in-Ok.ready.def ready.1 ready.5 ready.6
+    let def = c.in-Ok.ready.def in
+    subst (λ (d : Description). CanRead d def []) (sym c.description.ensures.same) (form_reads ready.2 c.in-Ok.ready.checked def ready.1 ready.5 ready.6)
 
 pub returns-in_err-rest-clause-run : goal.returns-in_err-rest-clause-run
 returns-in_err-rest-clause-run g c =
     let p = err_from_is_err_and c.from_residual-in_err-rest.result c.from_residual-in_err-rest.ensures.1 in
     let ready = c.in-Ok.ensures.ready in
-    let d = c.in-Ok.ready.description in
+    let d = c.description.result.now in
     let def = c.in-Ok.ready.def in
+    let form = subst (λ (e : Description). FirstForm ready.2 e) (sym c.description.ensures.same) ready.5 in
+    let named = subst (λ (e : Description). Names e def ready.1) (sym c.description.ensures.same) ready.6 in
     let taken = c.in_ok-capture.capture.bytes.items in
     let now = c.deref.result.now in
     let n = c.min-counted.result in
@@ -70,11 +76,11 @@ returns-in_err-rest-clause-run g c =
       said = search rules;
       no_memory = λ e.
           let cut = c.in_err-rest.ensures.no_memory (cc) in
-          let comes = comes_to_values c.args.words.now ready.0 ready.1 ready.2 taken (take n now) how d def (cut.0 ++ cut.1) cut.2 ready.3 ready.5 ready.6 same cut.3 in
+          let comes = comes_to_values c.args.words.now ready.0 ready.1 ready.2 taken (take n now) how d def (cut.0 ++ cut.1) cut.2 ready.3 form named same cut.3 in
           (taken_so ready.2 taken how, listings d def cut.0, record { from_files = ready.4; from_input = cap }, front_of_values c.args.words.now ready.2 taken how d def cut.0 cut.1 cut.2 comes, cut.4, listings_whole d def cut.0);
       cut = λ e.
           let cut = c.in_err-rest.ensures.cut (cc) in
-          let comes = comes_to_values c.args.words.now ready.0 ready.1 ready.2 taken (take n now) how d def (cut.0 ++ cut.1) cut.2 ready.3 ready.5 ready.6 same cut.3 in
+          let comes = comes_to_values c.args.words.now ready.0 ready.1 ready.2 taken (take n now) how d def (cut.0 ++ cut.1) cut.2 ready.3 form named same cut.3 in
           (taken_so ready.2 taken how, listings d def cut.0, record { from_files = ready.4; from_input = cap }, front_of_values c.args.words.now ready.2 taken how d def cut.0 cut.1 cut.2 comes, cut.4);
       out_failed = search rules;
       out_well = search rules;
@@ -84,8 +90,10 @@ returns-in_err-rest-clause-run g c =
 pub returns-in_err-status-clause-run : goal.returns-in_err-status-clause-run
 returns-in_err-status-clause-run g c =
     let ready = c.in-Ok.ensures.ready in
-    let d = c.in-Ok.ready.description in
+    let d = c.description.result.now in
     let def = c.in-Ok.ready.def in
+    let form = subst (λ (e : Description). FirstForm ready.2 e) (sym c.description.ensures.same) ready.5 in
+    let named = subst (λ (e : Description). Names e def ready.1) (sym c.description.ensures.same) ready.6 in
     let taken = c.in_ok-capture.capture.bytes.items in
     let now = c.deref.result.now in
     let n = c.min-counted.result in
@@ -94,7 +102,7 @@ returns-in_err-status-clause-run g c =
     let cap = c.in_ok-capture.ensures.taken in
     let values = c.in_ok-rest.ensures.values in
     let ending = ending_of c.in_ok-rest.rest in
-    let comes = comes_to_values c.args.words.now ready.0 ready.1 ready.2 taken (take n now) how d def values.0 ending ready.3 ready.5 ready.6 same values.1 in
+    let comes = comes_to_values c.args.words.now ready.0 ready.1 ready.2 taken (take n now) how d def values.0 ending ready.3 form named same values.1 in
     let h0 = (g.K.Sink.seen c.args.out.now).held in
     let h1 = (g.K.Sink.seen c.put_values.new.out).held in
     let added = Adds-same h0 h1 h1 c.args.gathered.now.items c.put_values.new.gathered.items c.close.new.gathered.items (listings d def values.0) values.2 refl c.in_err-status.ensures.unchanged in
@@ -110,8 +118,10 @@ returns-in_err-status-clause-run g c =
 pub returns-clause-run : goal.returns-clause-run
 returns-clause-run g c =
     let ready = c.in-Ok.ensures.ready in
-    let d = c.in-Ok.ready.description in
+    let d = c.description.result.now in
     let def = c.in-Ok.ready.def in
+    let form = subst (λ (e : Description). FirstForm ready.2 e) (sym c.description.ensures.same) ready.5 in
+    let named = subst (λ (e : Description). Names e def ready.1) (sym c.description.ensures.same) ready.6 in
     let taken = c.in_ok-capture.capture.bytes.items in
     let now = c.deref.result.now in
     let n = c.min-counted.result in
@@ -120,7 +130,7 @@ returns-clause-run g c =
     let cap = c.in_ok-capture.ensures.taken in
     let values = c.in_ok-rest.ensures.values in
     let ending = ending_of c.in_ok-rest.rest in
-    let comes = comes_to_values c.args.words.now ready.0 ready.1 ready.2 taken (take n now) how d def values.0 ending ready.3 ready.5 ready.6 same values.1 in
+    let comes = comes_to_values c.args.words.now ready.0 ready.1 ready.2 taken (take n now) how d def values.0 ending ready.3 form named same values.1 in
     let h0 = (g.K.Sink.seen c.args.out.now).held in
     let h1 = (g.K.Sink.seen c.put_values.new.out).held in
     let t1 = c.put_values.new.gathered.items in

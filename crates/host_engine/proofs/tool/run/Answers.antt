@@ -6,7 +6,7 @@ use Rattle.host_engine.specs.Tool.{Answers, said}
 use Rattle.host_engine.proofs.StatusLemmas.{names_no_script, script_not_early}
 use Rattle.host_engine.proofs.ToolLemmas.{untouched, shelf_alone, script_taken, script_tool, front_of_script}
 use Rattle.host_engine.proofs.FileLemmas.{lacks_here, seen_by}
-use Rattle.host_engine.proofs.PrintLemmas.{print_tool}
+use Rattle.host_engine.proofs.CommandLemmas.{answer_tool}
 use Rattle.host_engine.proofs.RunLemmas.{Adds-gathered, Adds-nothing}
 use Rattle.host_engine.proofs.tool.run.Goals as goal
 
@@ -38,35 +38,36 @@ pub returns-then-is_replay-clause-lacking : goal.returns-then-is_replay-clause-l
 returns-then-is_replay-clause-lacking g c =
     λ lacks. absurd (names_no_script c.args.words.now lacks.0 lacks.1 (c.is_replay.ensures.0 c.if-is_replay.true))
 
-pub returns-then-is_replay-clause-print_leaves_input : goal.returns-then-is_replay-clause-print_leaves_input
-returns-then-is_replay-clause-print_leaves_input g c =
-    λ name print. absurd (names_no_script c.args.words.now name (inr print) (c.is_replay.ensures.0 c.if-is_replay.true))
+pub returns-then-is_replay-clause-file_alone : goal.returns-then-is_replay-clause-file_alone
+returns-then-is_replay-clause-file_alone g c =
+    λ command name over. absurd (names_no_script c.args.words.now name (inr (command, over)) (c.is_replay.ensures.0 c.if-is_replay.true))
 
 pub returns-in-Some-clause-run : goal.returns-in-Some-clause-run
 returns-in-Some-clause-run g c =
     let words = c.args.words.now in
-    let name = c.in-Some.name.now in
-    let print = c.in-Some.ensures in
+    let command = c.in-Some.found.command in
+    let name = c.in-Some.found.file_name.now in
+    let over = c.in-Some.ensures in
     let before = g.F.Shelf.seen c.args.files.now in
-    let after = g.F.Shelf.seen c.print.new.files in
-    let others = c.print.ensures.others in
+    let after = g.F.Shelf.seen c.answer.new.files in
+    let others = c.answer.ensures.others in
     let alone = untouched (g.S.Source.seen c.args.input.now) in
     let held = (g.K.Sink.seen c.args.out.now).held in
     let t0 = c.args.gathered.now.items in
-    let t1 = c.print.new.gathered.items in
+    let t1 = c.answer.new.gathered.items in
     record {
-      said = IfOk-weaker c.print.result _ _
-          (λ status s. (untaken s.0, said None s.1, record { from_files = seen_by words name g.F.Shelf.counts_with before after s.0 (inr print) s.2 others; from_input = alone }, print_tool words name s.0 s.1 print s.3, Adds-gathered held held t0 t1 (said None s.1).text refl s.4, s.5))
-          c.print.ensures.said;
+      said = IfOk-weaker c.answer.result _ _
+          (λ status s. (untaken s.0, said None s.1, record { from_files = seen_by words name g.F.Shelf.counts_with before after s.0 (inr (command, over)) s.2 others; from_input = alone }, answer_tool words command name s.0 s.1 over s.3, Adds-gathered held held t0 t1 (said None s.1).text refl s.4, s.5))
+          c.answer.ensures.said;
       no_memory = λ e.
-          let s = c.print.ensures.no_memory e in
-          (untaken s.0, [], record { from_files = seen_by words name g.F.Shelf.counts_with before after s.0 (inr print) s.1 others; from_input = alone }, inl refl, Adds-nothing held held t0 t1 refl s.2, inl refl);
-      cut = λ e. absurd (c.print.ensures.puts_nothing e);
-      out_failed = λ e. absurd (c.print.ensures.puts_nothing e);
+          let s = c.answer.ensures.no_memory e in
+          (untaken s.0, [], record { from_files = seen_by words name g.F.Shelf.counts_with before after s.0 (inr (command, over)) s.1 others; from_input = alone }, inl refl, Adds-nothing held held t0 t1 refl s.2, inl refl);
+      cut = λ e. absurd (c.answer.ensures.puts_nothing e);
+      out_failed = λ e. absurd (c.answer.ensures.puts_nothing e);
       out_well = inr refl;
-      files = c.print.ensures.files;
+      files = c.answer.ensures.files;
     }
 
 pub returns-in-Some-clause-lacking : goal.returns-in-Some-clause-lacking
 returns-in-Some-clause-lacking g c =
-    λ lacks. (refl, c.print.ensures.lacking (lacks_here c.args.words.now (g.F.Shelf.seen c.args.files.now) c.in-Some.name.now (inr c.in-Some.ensures) lacks))
+    λ lacks. (refl, c.answer.ensures.lacking (lacks_here c.args.words.now (g.F.Shelf.seen c.args.files.now) c.in-Some.found.file_name.now (inr (c.in-Some.found.command, c.in-Some.ensures)) lacks))

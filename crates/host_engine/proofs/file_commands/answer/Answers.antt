@@ -1,14 +1,15 @@
-use Rattle.std.proofs.Common.{◌≡◌, ℕ, List, ◌++◌, Some, refl, ap, ◌∙◌}
+use Rattle.std.proofs.Common.{◌≡◌, ◌++◌, Some, refl, ap, ◌∙◌}
 use Rattle.std.proofs.lemmas.Result.{IfErr-at_err, IfErr-weaker, IfOk-weaker}
+use Rattle.mspec_tree.specs.declared.defs.Description.{Description}
 use Rattle.host_engine.specs.declared.faults.Cut.TheVariants.{NoMemory}
 use Rattle.host_engine.specs.declared.preparing.Refusal.{Refusal}
 use Rattle.host_engine.specs.declared.preparing.Refusal.TheVariants.{FileFault}
 use Rattle.host_engine.specs.Preparing.{refusal_said}
-use Rattle.host_engine.specs.Tool.{Printed, Said}
+use Rattle.host_engine.specs.Tool.{Described, Said, answer_of}
 use Rattle.host_engine.proofs.EndLemmas.{three_or_none}
-use Rattle.host_engine.proofs.PrintLemmas.{refused_print}
+use Rattle.host_engine.proofs.CommandLemmas.{refused_answer}
 use Rattle.host_engine.proofs.ToolLemmas.{both_ok}
-use Rattle.host_engine.proofs.tree_printing.print.Goals as goal
+use Rattle.host_engine.proofs.file_commands.answer.Goals as goal
 
 pub returns-in-Err-clause-said : goal.returns-in-Err-clause-said
 returns-in-Err-clause-said g c =
@@ -16,7 +17,7 @@ returns-in-Err-clause-said g c =
     let t0 = c.args.gathered.now.items in
     both_ok c.say.result _ _ _ c.say.ensures.said c.say.ensures.memory
     (λ status added memory.
-    let print = refused_print refused.0 c.in-Err.refusal refused.2 memory in
+    let print = refused_answer c.args.command refused.0 c.in-Err.refusal refused.2 memory in
     (refused.0, print.0, refused.1, print.1, added.0 ∙ ap (λ (o : Said). t0 ++ o.text) print.2, added.1 ∙ ap (λ (o : Said). o.status) print.2))
 
 pub returns-in-Err-clause-no_memory : goal.returns-in-Err-clause-no_memory
@@ -36,16 +37,15 @@ returns-in-Err-clause-lacking g c =
     let none = IfErr-weaker c.say.result _ _ (λ cut kept. kept.0) c.say.ensures.unchanged in
     three_or_none c.say.result three none
 
-pub returns-in_err-text-clause-no_memory : goal.returns-in_err-text-clause-no_memory
-returns-in_err-text-clause-no_memory g c = let tree = c.in-Ok.ensures.tree in λ (e : _). (Some tree.0, tree.1, refl)
-
-pub returns-in_err-extend_from_slice-clause-no_memory : goal.returns-in_err-extend_from_slice-clause-no_memory
-returns-in_err-extend_from_slice-clause-no_memory g c =
-    let tree = c.in-Ok.ensures.tree in λ (e : _). (Some tree.0, tree.1, c.in_err-extend_from_slice.ensures.items)
+pub returns-in_err-add_answer-clause-no_memory : goal.returns-in_err-add_answer-clause-no_memory
+returns-in_err-add_answer-clause-no_memory g c =
+    let found = c.in-Ok.ensures.described in λ (e : _). (Some found.0, found.1, c.in_err-add_answer.ensures.unchanged)
 
 pub returns-clause-said : goal.returns-clause-said
 returns-clause-said g c =
-    let tree = c.in-Ok.ensures.tree in
+    let found = c.in-Ok.ensures.described in
+    let d = c.in-Ok.checked in
     let t0 = c.args.gathered.now.items in
-    let added = c.in_ok-extend_from_slice.ensures.items ∙ ap (λ (text : List ℕ). t0 ++ text) (c.as_slice.ensures ∙ c.in_ok-text.ensures.text) in
-    (Some tree.0, Printed c.in-Ok.description, tree.1, (tree.0, refl, tree.2), added, refl)
+    let command = c.args.command in
+    let same = c.in_ok-add_answer.ensures.added ∙ ap (λ (e : Description). t0 ++ answer_of command e) c.description.ensures.same in
+    (Some found.0, Described command d, found.1, (refl, (found.0, refl, found.2)), same, refl)
