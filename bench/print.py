@@ -3,9 +3,10 @@
 
     python3 bench/print.py            # after `rt ci`, or `rt run` in crates/plchost, which leave the proved program
 
-For descriptions of 64 KiB, 256 KiB and 1 MiB, of three kinds, it prints the nanoseconds of processor time per byte of the
-text (the least of some runs, that of an empty description taken off), the peak memory per byte of the text, and the ratio of
-the time per byte at 1 MiB to that at 64 KiB.
+For accepted descriptions of three kinds and some sizes, it prints the nanoseconds of processor time per byte of the text (the
+least of some runs, that of an empty description taken off), the peak memory per byte of the text, and the ratio of the time per
+byte at the greatest size to that at the least. A description has at most 1,024 definitions of 256 fields, and 65,536 fields and
+parts of expressions: so names are long where a text is to be longer, and deep expressions end at 96 KiB.
 """
 import os
 import subprocess
@@ -16,30 +17,34 @@ TOP = os.path.dirname(os.path.dirname(os.path.abspath(__file__)))
 PROGRAM = os.path.join(TOP, "crates", "plchost", "out", "plchost")
 KIB = 1 << 10
 SIZES = [64, 256, 1024]
+DEEP_SIZES = [6, 24, 96]
 RUNS = 9
 DEEPEST = 32
 
 
 def definitions(room):
-    """Many small definitions."""
+    """Definitions of some fields each, 1,024 at most, with names of up to 100 bytes."""
     parts, length = [], 0
+    long = "n" * 100
     while True:
-        part = f"[type T{len(parts)} [simple uint 8 a] [array byte v count 'a + 1']]\n"
-        if length + len(part) > room:
+        n = len(parts)
+        fields = "".join(f" [simple uint 8 {long}{k}]" for k in range(6))
+        part = f"[type T{n}{fields} [array byte v count '{long}0 + 1']]\n"
+        if length + len(part) > room or n == 1024:
             return "".join(parts)
         parts.append(part)
         length += len(part)
 
 
 def expressions(room):
-    """One definition, whose fields have expressions of the greatest depth."""
+    """Definitions of 64 fields each, whose expressions are of the greatest depth."""
     deep = "-" * (DEEPEST - 1) + "a"
-    head, parts = "[type T [simple uint 8 a]", []
-    length = len(head) + 2
+    parts, length = [], 0
     while True:
-        part = f" [virtual int 32 v{len(parts)} '{deep}']"
+        fields = "".join(f" [virtual int 64 v{k} '{deep}']" for k in range(64))
+        part = f"[type T{len(parts)} [simple uint 8 a]{fields}]\n"
         if length + len(part) > room:
-            return head + "".join(parts) + "]\n"
+            return "".join(parts)
         parts.append(part)
         length += len(part)
 
@@ -65,9 +70,9 @@ def least(path):
     return min(r[0] for r in runs), max(r[1] for r in runs), {r[2] for r in runs}
 
 
-def measure(name, made, folder, base):
+def measure(name, made, folder, base, sizes):
     per_byte = {}
-    for size in SIZES:
+    for size in sizes:
         path = os.path.join(folder, f"{name.replace(' ', '_')}{size}")
         text = made(size * KIB)
         with open(path, "w") as to:
@@ -78,7 +83,7 @@ def measure(name, made, folder, base):
         more = max(memory - base[1], 0) * KIB
         print(f"{name:16} {size:5} KiB  {spent / len(text) * 1e9:8.1f} ns a byte  "
               f"{more / len(text):6.1f} bytes of memory a byte  status {', '.join(map(str, sorted(statuses)))}")
-    print(f"{name:16} time per byte at 1 MiB to that at 64 KiB: {per_byte[1024] / per_byte[64]:.2f}")
+    print(f"{name:16} time per byte at {sizes[-1]} KiB to that at {sizes[0]} KiB: {per_byte[sizes[-1]] / per_byte[sizes[0]]:.2f}")
 
 
 def main():
@@ -88,9 +93,9 @@ def main():
         empty = os.path.join(folder, "empty")
         open(empty, "w").close()
         base = least(empty)
-        measure("definitions", definitions, folder, base)
-        measure("deep expressions", expressions, folder, base)
-        measure("parentheses", parentheses, folder, base)
+        measure("definitions", definitions, folder, base, SIZES)
+        measure("deep expressions", expressions, folder, base, DEEP_SIZES)
+        measure("parentheses", parentheses, folder, base, SIZES)
 
 
 main()
