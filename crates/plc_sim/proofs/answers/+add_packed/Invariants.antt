@@ -1,0 +1,4 @@
+use Rattle.plc_sim.proofs.answers.+add_packed.Given as goal
+
+abbrev pub decreases-add_packed : goal.decreases-add_packed
+decreases-add_packed l = l.bytes
